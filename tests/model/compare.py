@@ -13,13 +13,13 @@ from random import Random
 from cases.debugged import DebuggedCase, difference_of_debugged
 from cases.drives import DrivesCase, difference_of_drives
 from cases.formats import FormatCase
-from cases.glances import RacesCase, TimelinesCase, difference_of_races, difference_of_timelines, rules_not_met
+from cases import kitted, passers
+from cases.glances import OF_BYTES, OF_KIT, OF_ORDERS, RacesCase, TimelinesCase, difference_of_races, difference_of_timelines, rules_not_met
 from cases.halts import HaltsCase, difference_of_halts
 from cases.histories import HistoriesCase, is_turned
 from cases.hunted import HuntsCase, difference_of_hunts
 from cases.inputs import InputsCase, difference_of_inputs
 from cases.kinds import KINDS, Case, case_of
-from cases.kitted import CASES
 from cases.lived import LivedCase, difference_of_lived
 from cases.mixed import MixedCase, difference_of_mixed
 from cases.moved import MovedCase, difference_of_moved
@@ -408,7 +408,9 @@ def print_totals(totals):
 
 def print_rules_not_met(totals):
     """Whether there are any, though there were enough cases to meet each."""
-    missed = rules_not_met(totals.answers) if totals.cases["kit"] >= CASES else []
+    subjects = [OF_KIT, OF_BYTES] if totals.cases["kit"] >= kitted.CASES else []
+    subjects += [OF_ORDERS] if totals.cases["orders"] >= passers.CASES else []
+    missed = rules_not_met(totals.answers, subjects)
     for rule in missed:
         print(f"NEVER MET: {rule}")
     return bool(missed)

@@ -7,6 +7,7 @@ from dataclasses import dataclass
 from cases.histories import disk_with_stretches, is_turned
 from model.columns import is_dense
 from model.listing import OutOfRange
+from model.other_rules import AS_ONE, BEFORE_STORES, BEHIND_LOADS, BOTH_SIDES, GIVEN_LATER, LOADS_ORDER, STAYS, STORES_ORDER
 from model.pictures import difference_of_picture
 from model.races import EARLIER, ELSEWHERE, ONE_AROUND, SEVERAL, Readings
 from model.recovery import Unrecovered
@@ -16,7 +17,7 @@ from model.timelines import Timeline, trace_events
 TIME_LIMIT = 60
 WIDTH, WIDTHS = 1200, range(400, 4001)
 LAST = 1, 2, 5, 1 << 62  # how many of the last events of a stretch are asked for
-OF_KIT, OF_BYTES = "rule about a kit", "rule about bytes"
+OF_KIT, OF_BYTES, OF_ORDERS = "rule about a kit", "rule about bytes", "rule about memory orders"
 RULES = {
     OF_KIT: {
         "a kit's lock taken behind another thread": "locks of a kit order nothing",
@@ -30,6 +31,16 @@ RULES = {
         ELSEWHERE: "all four bytes' stores are compared, whichever are accessed",
         ONE_AROUND: "a store is compared once, and not once for each byte",
         SEVERAL: "stores are compared by rising byte",
+    },
+    OF_ORDERS: {
+        LOADS_ORDER: "a relaxed load orders nothing by itself",
+        STORES_ORDER: "a relaxed store orders nothing by itself",
+        BEFORE_STORES: "a fence gives up by a relaxed store",
+        BEHIND_LOADS: "a fence takes what a relaxed load has found",
+        BOTH_SIDES: "a fence takes what another one gave up",
+        STAYS: "what was given up to a word stays behind a relaxed store",
+        GIVEN_LATER: "a fence takes nothing that was given up behind the load",
+        AS_ONE: "words of atomic operations at equal places count as one",
     },
 }
 
@@ -120,7 +131,7 @@ def tell_met(readings, lines, tally):
     for what, count in readings.met.items():
         tally[OF_KIT, what] += count
     for what, count in readings.narrow.met.items():
-        tally[OF_BYTES, what] += count
+        tally[OF_BYTES if what in RULES[OF_BYTES] else OF_ORDERS, what] += count
     if lines[0].startswith("no races"):
         tally[OF_KIT, "none, from later on" if readings.narrow.stretch[0] else "none, from the begin"] += 1
 

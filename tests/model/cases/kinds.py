@@ -21,6 +21,7 @@ from cases.limits import limit_case
 from cases.lived import Living, lived_case
 from cases.mixed import mixed_case
 from cases.moved import moved_case
+from cases.passers import orders_case
 from cases.profiled import profiles_case
 from cases.raced import raced_case
 from cases.rounds import rounds_case
@@ -248,7 +249,7 @@ KINDS = {
     "disks": disks_case, "killed": killed_case, "limits": limits_case, "saved": saved_case, "tables": tables_case,
     "stopped": stopped_case, "checkpoints": checkpoints_case, "formats": format_case, "lists": of_guest(lists_case),
     "fates": of_guest(fates_case), "parts": of_guest(parts_case), "listings": of_guest(listings_case), "cuts": cuts_case,
-    "histories": of_guest(histories_case), "races": of_guests(PartSharer, races_case, 0.9), "kit": kitted_case,
+    "histories": of_guest(histories_case), "races": of_guests(PartSharer, races_case, 0.9), "kit": kitted_case, "orders": orders_case,
     "timelines": of_sharers(timelines_case, 0.4),
     "hunts": hunts_case, "debugged": of_sharers(debugged_case, 0.4), "moved": of_sharers(moved_case, 0.6),
     "stepped": of_sharers(stepped_case, 0.6),

@@ -1,6 +1,8 @@
 """Random programs in C for the kit: threads that access words they share, plainly or in an order, between calls of the C library."""
 THREADS = range(2, 4)
 WORDS = 3
+OF_LOADS, OF_STORES = ["relaxed", "relaxed", "consume", "acquire", "seq_cst"], ["relaxed", "relaxed", "release", "seq_cst"]
+OF_BOTH = ["relaxed", "relaxed", "consume", "acquire", "release", "acq_rel", "seq_cst"]
 HEAD = """#include <pthread.h>
 #include <semaphore.h>
 #include <stdatomic.h>
@@ -45,7 +47,7 @@ class Source:
         return f"static void *work_{number}(void *unused) {{\n{blocks}    return unused;\n}}\n\n"
 
     def block(self, count):
-        return "".join(f"    {line}\n" for _ in range(count) for line in self.chance.choice([self.access, self.between, self.guarded])())
+        return "".join(f"    {line}\n" for _ in range(count) for line in self.chance.choice([self.access, self.ordered, self.between, self.guarded])())
 
     def word(self):
         return self.chance.randrange(WORDS)
@@ -55,6 +57,23 @@ class Source:
         return [chance.choice([f"shared[{word}]++;", f"shared[{word}] = {chance.randrange(9)};", f"if (shared[{word}] > 99) exit(1);",
                                f"atomic_fetch_add(&atomic[{word}], 1);", f"atomic_store(&atomic[{word}], shared[{word}]);",
                                f"if (atomic_load(&atomic[{word}]) > 99) shared[{word}] = 0;", f"*(volatile int *)&atomic[{word}] = 1;"])]
+
+    def ordered(self):
+        """An atomic operation with an order of its own, and fences of the thread around it now and then."""
+        word, chance = self.word(), self.chance
+        load, store, both = (f"memory_order_{chance.choice(orders)}" for orders in (OF_LOADS, OF_STORES, OF_BOTH))
+        self.names += 1
+        expected = f"expected_{self.names}"
+        operation = chance.choice([
+            [f"atomic_store_explicit(&atomic[{word}], 1, {store});"], [f"shared[{word}] += atomic_load_explicit(&atomic[{word}], {load});"],
+            [f"atomic_fetch_add_explicit(&atomic[{word}], 1, {both});"], [f"shared[{word}] += atomic_exchange_explicit(&atomic[{word}], 2, {both});"],
+            [f"int {expected} = {chance.randrange(3)};",
+             f"atomic_compare_exchange_strong_explicit(&atomic[{word}], &{expected}, 1, {both}, {load});"]])
+        before, after = ([self.fence()] if chance.random() < 0.4 else [] for _ in range(2))
+        return [*before, *operation, *after]
+
+    def fence(self):
+        return f"atomic_thread_fence(memory_order_{self.chance.choice(OF_BOTH)});"
 
     def between(self):
         """What takes the kit's locks, of which none orders the accesses on both sides."""
@@ -83,5 +102,5 @@ class Source:
         ways = [("pthread_mutex_lock(&mutex);", "pthread_mutex_unlock(&mutex);"), ("pthread_rwlock_wrlock(&lock);", "pthread_rwlock_unlock(&lock);"),
                 ("pthread_rwlock_rdlock(&lock);", "pthread_rwlock_unlock(&lock);"), ("sem_wait(&semaphore);", "sem_post(&semaphore);")]
         begin, end = self.chance.choice(ways)
-        inner = [line for _ in range(self.chance.choice([1, 2])) for line in self.chance.choice([self.access, self.between])()]
+        inner = [line for _ in range(self.chance.choice([1, 2])) for line in self.chance.choice([self.access, self.ordered, self.between])()]
         return [begin, *inner, end]

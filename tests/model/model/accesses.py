@@ -1,5 +1,5 @@
-"""What a step loads or stores, whether that is atomic, and which accesses of each word are kept to be compared with later ones; what a kit
-accesses for itself, and where it tells that memory is given anew."""
+"""What a step loads or stores, whether that is atomic and orders something, and which accesses of each word are kept to be compared with later
+ones; which words are fences of a thread; what a kit accesses for itself, and where it tells that memory is given anew."""
 from dataclasses import dataclass
 
 from model.abi import ALL_ONES
@@ -8,8 +8,9 @@ from model.stretches import next_word
 
 LOAD, STORE = 0b0000011, 0b0100011
 WIDTHS = {LOAD: (0, 1, 2, 4, 5), STORE: (0, 1, 2)}  # by opcode, each funct3
-FENCE_BEFORE_STORE = 0x0310000F  # fence rw,w
-FENCE_BEHIND_LOAD = 0x0230000F  # fence r,rw
+FENCES_BEFORE_STORE = {0x0310000F: True, 0x0110000F: False}  # fence rw,w and fence w,w: whether the store releases
+FENCES_BEHIND_LOAD = {0x0230000F: True, 0x0220000F: False}  # fence r,rw and fence r,r: whether the load acquires
+FENCE, READS_AND_WRITES = 0x0000000F, 0b0011  # the instruction by its opcode and funct3, and the bits of what it puts in an order
 OWN_LOCKS = 1, 2, 3, 4  # a kit's mutexes under which nothing of a program is accessed
 GIVEN_ANEW, REGISTERS = 0x00002033, 31 << 15 | 31 << 20  # slt x0, and the bits of the word that say which registers it compares
 
@@ -24,6 +25,7 @@ class Access:
     length: int
     place: int
     is_atomic: bool
+    is_ordering: bool = False  # whether it is an atomic store that releases, or an atomic load that acquires
 
     @property
     def word(self):
@@ -35,8 +37,16 @@ class Access:
         return meet and self.thread != other.thread and (self.is_store or other.is_store) and not (self.is_atomic and other.is_atomic)
 
 
-def is_fence(memory, place, fence):
-    return memory.is_valid(place, 4) and memory.load(place, 4) == fence
+def is_fence_of_thread(word):
+    """Whatever else it puts in an order: a fence with r and w both before and after."""
+    before, after = word >> 24 & READS_AND_WRITES, word >> 20 & READS_AND_WRITES
+    return word & 0x707F == FENCE and before == after == READS_AND_WRITES
+
+
+def order_of(memory, thread, is_store):
+    """Whether the access of a thread's next step orders something by its fence; None where it is plain."""
+    place, fences = (thread.pc - 4, FENCES_BEFORE_STORE) if is_store else (thread.pc + 4, FENCES_BEHIND_LOAD)
+    return fences.get(memory.load(place, 4)) if memory.is_valid(place, 4) else None
 
 
 def access_of(machine, thread_id, position):
@@ -50,8 +60,8 @@ def access_of(machine, thread_id, position):
     length = 1 << (word >> 12 & 3)
     if address % length or not memory.is_valid(address, length):
         return None
-    fence = (thread.pc - 4, FENCE_BEFORE_STORE) if is_store else (thread.pc + 4, FENCE_BEHIND_LOAD)
-    return Access(position, thread_id, is_store, address, length, thread.pc, is_fence(memory, *fence))
+    order = order_of(memory, thread, is_store)
+    return Access(position, thread_id, is_store, address, length, thread.pc, order is not None, order is True)
 
 
 def is_of_kit(machine, access):

@@ -50,8 +50,7 @@ class Orders:
         self.left, self.untaken = {}, 0
 
     def place(self, kind, address):
-        """Locks of one kind that count as one have one holder; those at other bytes of one word are other locks. So have words of atomic
-        operations."""
+        """Locks of one kind that count as one have one holder; those at other bytes of one word are other locks."""
         return kind, address % PLACES
 
     def hand_on(self, before, machine):

@@ -2,11 +2,12 @@
 from collections import Counter
 from dataclasses import dataclass
 
-from model.accesses import Access, Shadow, access_of, given_anew, is_of_kit
+from model.accesses import Access, Shadow, access_of, given_anew, is_fence_of_thread, is_of_kit
 from model.clocks import Clocks
 from model.listing import address_text
 from model.orders import Before, Orders
-from model.stretches import is_plain
+from model.other_rules import Watched
+from model.stretches import is_plain, next_word
 
 PAIRS = 64  # that have lines of their own
 ONE_AROUND = "a store on both sides of another one, counted once"
@@ -28,19 +29,19 @@ class Races:
     """What is found by one reading of what orders."""
 
     def __init__(self, is_wide):
-        self.clocks, self.shadow = Clocks(), Shadow()
+        self.is_wide = is_wide
+        self.clocks, self.shadow = Clocks() if is_wide else Watched(), Shadow()
         self.orders = Orders(self.clocks, is_wide)
         self.pairs, self.others, self.met = {}, 0, Counter()
         self.stretch = 0, 0
 
     def note(self, access):
-        """What a thread did up to an atomic store, that too, is before each later atomic load of the word."""
-        holder = self.orders.place("word", access.word)
+        """What a thread did up to an atomic store that releases, that too, is before each later atomic load of the word that acquires."""
         if access.is_atomic and not access.is_store:
-            self.clocks.take(access.thread, holder)
+            self.clocks.load(access.thread, access.word, access.is_ordering)
         self.compare(access)
         if access.is_atomic and access.is_store:
-            self.clocks.give(access.thread, holder)
+            self.clocks.store(access.thread, access.word, access.is_ordering)
 
     def compare(self, access):
         """With those that are kept of its word; then it is kept itself."""
@@ -51,6 +52,9 @@ class Races:
         stores = [kept for kept in raced if kept.is_store]
         if stores:
             self.met.update(met_by(access, stores, self.shadow.stores_by_byte(access.word)))
+        if not self.is_wide:
+            self.met.update(rule for kept, epoch in self.shadow.kept(access.word) if kept.conflicts(access)
+                            for rule in self.clocks.unlike(access.thread, kept.thread, epoch))
         self.shadow.keep(access, self.clocks.epoch(access.thread))
 
     def count(self, first, second):
@@ -128,6 +132,7 @@ class Readings:
     def look_at_plain(self, machine, thread_id, position):
         access = access_of(machine, thread_id, position)
         if access is None:
+            self.order(thread_id, next_word(machine, thread_id))
             return self.give_anew(given_anew(machine, thread_id))
         if is_of_kit(machine, access):
             self.met["an access of a kit"] += 1
@@ -135,6 +140,12 @@ class Readings:
         for races in (self.narrow, self.wide):
             races.note(access)
         return None
+
+    def order(self, thread_id, word):
+        """Whichever thread it is, and whoever wrote the fence."""
+        if is_fence_of_thread(word):
+            for races in (self.narrow, self.wide):
+                races.clocks.fence(thread_id)
 
     def give_anew(self, words):
         """What was done to these words before is compared with nothing."""

@@ -485,7 +485,7 @@ class WhatIsDrawn(WithKeys):
 
     def test_cases(self):
         """Of the kind's cases some are refused, by motions and by commands, and some have no session; histories begin everywhere."""
-        cases = [case_of("debugged", seed) for seed in range(1, 46)]
+        cases = [case_of("debugged", seed) for seed in range(1, 56)]
         kinds = [kind_of_outcome(case, outcome_of_model(case)).partition(" by ") for case in cases]
         self.assertEqual({kind for kind, *_ in kinds} - {"Range"}, {"shown", "shown before a motion", "Damaged", "OlderDiffers"})
         self.assertGreater(len({maker for *_, maker in kinds}), 4)

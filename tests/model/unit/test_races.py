@@ -3,7 +3,7 @@ import unittest
 from collections import Counter
 from random import Random
 
-from cases.glances import OF_KIT, RULES, rules_not_met, tell_met
+from cases.glances import OF_BYTES, OF_KIT, OF_ORDERS, RULES, rules_not_met, tell_met
 from cases.kinds import case_of
 from model.abi import ALL_ONES, Call
 from model.accesses import Access, Shadow
@@ -11,12 +11,17 @@ from model.assembler import STOP, Jump, Label, Program, call_words, image_of, im
 from model.clocks import Clocks
 from model.layout import Geometry, format_disk
 from model.lines import serve_disk
+from model.other_rules import AS_ONE, BEFORE_STORES, BEHIND_LOADS, BOTH_SIDES, GIVEN_LATER, LOADS_ORDER, STAYS, STORES_ORDER
 from model.races import EARLIER, ELSEWHERE, ONE_AROUND, SEVERAL, Readings
 from model.stretches import Recording
 from model.switches import switched
 
 SHARED = 0x2800
 FENCE_RW_W, FENCE_R_RW, FENCE_RW_RW = 0x0310000F, 0x0230000F, 0x0330000F
+FENCE_W_W, FENCE_R_R = 0x0110000F, 0x0220000F
+FENCES_OF_THREADS = [0x0330000F, 0x0FF0000F, 0x0730000F, 0x03B0000F, 0x0B70000F, 0x8330000F, 0xFFF0000F, 0x0330008F, 0x0330800F, 0x0FFFFF8F]
+OTHER_FENCES = [0x0310000F, 0x0320000F, 0x0130000F, 0x0230000F, 0x0110000F, 0x0220000F, 0x0120000F, 0x0C30000F, 0x03C0000F, 0x0D30000F,
+                0x0E30000F, 0x03D0000F, 0x03E0000F, 0x0000000F, 0x3000000F, 0x00F0000F, 0x0F00000F]
 HALF, BYTE, BYTE_UNSIGNED = 1, 0, 4
 
 
@@ -40,6 +45,14 @@ def published(offset=8, fence=FENCE_RW_W):
 def looked_at(offset=8, fence=FENCE_R_RW):
     """An atomic load."""
     return [*base(offset), immediate_form(0x03, 2, 4, 3, 0), fence]
+
+
+def relaxed_store(offset=8):
+    return published(offset, FENCE_W_W)
+
+
+def relaxed_load(offset=8):
+    return looked_at(offset, FENCE_R_R)
 
 
 def call(number, *arguments):
@@ -394,6 +407,189 @@ class Locks(WithKeys):
                   races=["3 loads atomically, 4 stores, once", "2 loads, 4 stores, once"])
 
 
+class MemoryOrders(WithKeys):
+    """Thread 2 stores and passes on by a word; thread 3 looks at that, and loads."""
+
+    def test_relaxed_is_atomic(self):
+        """As one that orders is: two don't race, and one races with a plain access."""
+        self.no_race((2, relaxed_store()), (3, relaxed_load()))
+        self.no_race((2, relaxed_store()), (3, relaxed_store()))
+        for first, second in [(relaxed_store(), looked_at()), (published(), relaxed_load()), (published(), relaxed_store())]:
+            self.no_race((2, first), (3, second))
+            self.no_race((3, second), (2, first))
+        self.race((2, relaxed_store()), (3, load(8)), races=["2 stores atomically, 3 loads, once"])
+        self.race((3, relaxed_load()), (2, store(8)), races=["3 loads atomically, 2 stores, once"])
+        self.race((2, store(8)), (3, relaxed_store()), races=["2 stores, 3 stores atomically, once"])
+        self.assertEqual(told((2, relaxed_store()), (3, load(8))),
+                         ["3+3 thread 2 stores atomically 00002808 pc 00001048, 5+2 thread 3 loads 00002808 pc 00001058, once"])
+
+    def test_relaxed_beside_another_fence(self):
+        """Before a store, and behind a load."""
+        self.race((2, [*base(8), FENCE_R_R, store_form(2, 4, 0, 3)]), (3, relaxed_load()), races=["2 stores, 3 loads atomically, once"])
+        self.race((2, relaxed_store()), (3, looked_at(8, FENCE_W_W)), races=["2 stores atomically, 3 loads, once"])
+        self.race((2, [*store(8), FENCE_W_W]), (3, relaxed_load()), races=["2 stores, 3 loads atomically, once"])
+        self.race((2, relaxed_store()), (3, [*base(8), FENCE_R_R, immediate_form(0x03, 2, 4, 3, 0)]), races=["2 stores atomically, 3 loads, once"])
+
+    def test_relaxed_orders_nothing(self):
+        """On either side."""
+        for given, taken in [(relaxed_store(), looked_at()), (published(), relaxed_load()), (relaxed_store(), relaxed_load())]:
+            self.race((2, [*store(), *given]), (3, [*taken, *load()]))
+        self.no_race((2, [*store(), *published()]), (3, [*looked_at(), *load()]))
+
+    def test_fences(self):
+        """Before the relaxed store, behind the relaxed load; on both sides."""
+        for given, taken in [([FENCE_RW_RW, *relaxed_store()], looked_at()), (published(), [*relaxed_load(), FENCE_RW_RW]),
+                             ([FENCE_RW_RW, *relaxed_store()], [*relaxed_load(), FENCE_RW_RW])]:
+            self.no_race((2, [*store(), *given]), (3, [*taken, *load()]))
+
+    def test_fences_on_one_side_alone(self):
+        self.race((2, [*store(), FENCE_RW_RW, *relaxed_store()]), (3, [*relaxed_load(), *load()]))
+        self.race((2, [*store(), *relaxed_store()]), (3, [*relaxed_load(), FENCE_RW_RW, *load()]))
+
+    def test_where_fences_stand(self):
+        taken = (3, [*looked_at(), *load()])
+        self.race((2, [FENCE_RW_RW, *store(), *relaxed_store()]), taken)
+        self.race((2, [*store(), *relaxed_store(), FENCE_RW_RW]), taken)
+        self.race((2, [*store(), *relaxed_store()]), (2, [FENCE_RW_RW]), taken)
+        self.no_race((2, [*store(), FENCE_RW_RW, *load(4), *relaxed_store()]), taken)
+        given = (2, [*store(), *published()])
+        self.race(given, (3, [*relaxed_load(), *load(), FENCE_RW_RW]))
+        self.race(given, (3, [FENCE_RW_RW, *relaxed_load(), *load()]))
+        self.no_race(given, (3, [*relaxed_load(), *load(4), FENCE_RW_RW, *load()]))
+
+    def test_last_fence(self):
+        """What was done by then, and not what was done since; each fence takes the place of the one before."""
+        stores = [*store(), FENCE_RW_RW, *store(4)]
+        self.race((2, [*stores, *relaxed_store()]), (3, [*looked_at(), *load(), *load(4)]))
+        self.assertTrue(" 00002804 " in told((2, [*stores, *relaxed_store()]), (3, [*looked_at(), *load(), *load(4)]))[0])
+        self.no_race((2, [*stores, FENCE_RW_RW, *relaxed_store()]), (3, [*looked_at(), *load(), *load(4)]))
+        self.no_race((2, [*stores, *published()]), (3, [*looked_at(), *load(), *load(4)]))
+
+    def test_the_store_itself(self):
+        """It comes behind the fence, so it isn't given up; one that releases is."""
+        given = [FENCE_RW_RW, *relaxed_store()]
+        self.race((2, given), (3, [*looked_at(), *load(8)]), races=["2 stores atomically, 3 loads, once"])
+        self.race((2, given), (3, [*relaxed_load(), FENCE_RW_RW, *load(8)]), races=["2 stores atomically, 3 loads, once"])
+        self.no_race((2, published()), (3, [*relaxed_load(), FENCE_RW_RW, *load(8)]))
+
+    def test_kinds_of_fences(self):
+        for fence in FENCES_OF_THREADS:
+            self.no_race((2, [*store(), fence, *relaxed_store()]), (3, [*looked_at(), *load()]))
+            self.no_race((2, [*store(), *published()]), (3, [*relaxed_load(), fence, *load()]))
+        for fence in OTHER_FENCES:
+            self.race((2, [*store(), fence, *relaxed_store()]), (3, [*looked_at(), *load()]))
+            self.race((2, [*store(), *published()]), (3, [*relaxed_load(), fence, *load()]))
+
+    def test_fences_alone(self):
+        """They order nothing without an atomic operation, nor with plain accesses, nor for another thread."""
+        self.race((2, [*store(), FENCE_RW_RW]), (3, [FENCE_RW_RW, *load()]))
+        self.race((2, [*store(), FENCE_RW_RW, *relaxed_store()]), (3, [FENCE_RW_RW, *load()]))
+        self.race((2, [*store(), FENCE_RW_RW, *store(8)]), (3, [*load(8), FENCE_RW_RW, *load()]), races=["2 stores, 3 loads, once"] * 2)
+        self.race((2, store()), (4, [FENCE_RW_RW]), (2, relaxed_store()), (3, [*looked_at(), *load()]), threads=3)
+        self.race((2, [*store(), *published()]), (3, relaxed_load()), (4, [FENCE_RW_RW]), (3, load()), threads=3)
+        self.race((2, [*store(), *published()]), (3, relaxed_load()), (4, [FENCE_RW_RW, *load()]), threads=3, races=["2 stores, 4 loads, once"])
+
+    def test_words(self):
+        """Of the store and the load: the same one, or one that counts as it."""
+        given = [*store(), FENCE_RW_RW, *relaxed_store()]
+        self.race((2, given), (3, [*looked_at(12), *load()]))
+        self.race((2, given), (3, [*relaxed_load(12), FENCE_RW_RW, *load()]))
+        self.race((2, [*store(), *published()]), (3, [*relaxed_load(12), FENCE_RW_RW, *load()]))
+        self.no_race((2, given), (3, [*looked_at(8 + 4096), *load()]))
+        self.no_race((2, given), (3, [*relaxed_load(8 + 4096), FENCE_RW_RW, *load()]))
+        self.race((2, given), (3, [*looked_at(8 + 2048), *load()]))
+        byte = [*store(), FENCE_RW_RW, *base(9), FENCE_W_W, store_form(BYTE, 4, 0, 3)]
+        self.no_race((2, byte), (3, [*relaxed_load(), FENCE_RW_RW, *load()]))
+        for fence, behind in [(FENCE_R_RW, []), (FENCE_R_R, [FENCE_RW_RW])]:
+            half = [*base(10), immediate_form(0x03, HALF, 4, 3, 0), fence, *behind, *load()]
+            self.no_race((2, given), (3, half))
+            self.no_race((2, byte), (3, half))
+
+    def test_sequences(self):
+        """What was given up stays there behind relaxed stores, with a fence or without one, and behind plain ones."""
+        given = [*store(), *published()]
+        for taken in ([*looked_at(), *load()], [*relaxed_load(), FENCE_RW_RW, *load()]):
+            for passed in (relaxed_store(), [FENCE_RW_RW, *relaxed_store()], [*relaxed_load(), *relaxed_store()]):
+                self.no_race((2, given), (4, passed), (3, taken), threads=3)
+            self.no_race((2, given), (2, relaxed_store()), (3, taken))
+            self.no_race((2, [*store(), FENCE_RW_RW, *relaxed_store()]), (4, relaxed_store()), (3, taken), threads=3)
+        self.race((2, given), (4, store(8)), (3, [*looked_at(), *load()]), threads=3,
+                  races=["2 stores atomically, 4 stores, once", "4 stores, 3 loads atomically, once"])
+
+    def test_when_a_load_has_loaded(self):
+        """What is given up to the word behind the load isn't taken."""
+        given = (2, [*store(), *published()])
+        self.race((3, relaxed_load()), given, (3, [FENCE_RW_RW, *load()]))
+        self.no_race((3, relaxed_load()), given, (3, [*relaxed_load(), FENCE_RW_RW, *load()]))
+        self.race((3, [*relaxed_load(), FENCE_RW_RW]), given, (3, [FENCE_RW_RW, *load()]))
+
+    def test_all_loads(self):
+        """A fence takes what each of them found, however long ago; also where a lock or a load that acquires came between."""
+        given = [(2, [*store(), *published()]), (4, [*store(4), *published(12)])]
+        self.no_race(*given, (3, [*relaxed_load(8), *relaxed_load(12), *load(16), *locked([]), FENCE_RW_RW, *load(), *load(4)]), threads=3)
+        self.race(*given, (3, [*relaxed_load(8), *looked_at(12), *load(4), *load()]), threads=3)
+        self.no_race(*given, (3, [*relaxed_load(8), *looked_at(12), FENCE_RW_RW, *load(4), *load()]), threads=3)
+        self.no_race(*given, (3, [*relaxed_load(8), FENCE_RW_RW, *relaxed_load(12), FENCE_RW_RW, *load(), *load(4)]), threads=3)
+        self.race(*given, (3, [*relaxed_load(8), FENCE_RW_RW, *relaxed_load(12), *load()]), (3, load(4)), threads=3, races=["4 stores, 3 loads, once"])
+
+    def test_all_givers(self):
+        """Of each that gave up to the word."""
+        given = [(2, [*store(), FENCE_RW_RW, *relaxed_store()]), (4, [*store(4), FENCE_RW_RW, *relaxed_store()])]
+        for taken in (looked_at(), [*relaxed_load(), FENCE_RW_RW]):
+            self.no_race(*given, (3, [*taken, *load(), *load(4)]), threads=3)
+
+    def test_chains(self):
+        """A fence gives up what it took, and what its thread had seen by then."""
+        taken = (3, [*looked_at(12), *load()])
+        given = (2, [*store(), *published()])
+        self.no_race(given, (4, [*relaxed_load(), FENCE_RW_RW, *relaxed_store(12)]), taken, threads=3)
+        self.race(given, (4, [*relaxed_load(), *published(12)]), taken, threads=3)
+        self.race(given, (4, [FENCE_RW_RW, *relaxed_load(), *relaxed_store(12)]), taken, threads=3)
+        self.race(given, (4, [FENCE_RW_RW, *looked_at(), *relaxed_store(12)]), taken, threads=3)
+        self.no_race(given, (4, [*looked_at(), FENCE_RW_RW, *relaxed_store(12)]), taken, threads=3)
+        self.no_race((2, locked(store())), (4, [*locked([]), FENCE_RW_RW, *relaxed_store(12)]), taken, threads=3)
+        self.race((2, locked(store())), (4, [FENCE_RW_RW, *locked([]), *relaxed_store(12)]), taken, threads=3)
+
+    def test_one_direction(self):
+        """A fence that takes behind one that gives up; not the other way round."""
+        self.race((3, [*relaxed_load(), FENCE_RW_RW]), (2, [*store(), FENCE_RW_RW, *relaxed_store()]), (3, load()))
+        self.race((2, [FENCE_RW_RW, *relaxed_store(), *store()]), (3, [*relaxed_load(), FENCE_RW_RW, *load()]))
+
+    def test_created(self):
+        """A thread has no fence of who created it."""
+        late = [("late", [*relaxed_store()])]
+        create = call(Call.CREATE, Label("late"), 0, 0, 0)
+        self.race((2, [*store(), FENCE_RW_RW, *create]), (4, length_of(late[0][1]) // 4), (3, [*looked_at(), *load()]), routines=late)
+
+    def test_numbers_given_again(self):
+        """They count as one thread, so the last fence is that of the thread that had the number."""
+        late = [("first", [*store(), FENCE_RW_RW, *call(Call.THREAD_EXIT, 0)]), ("second", relaxed_store())]
+        made = [(number, call(Call.CREATE, Label(name), 0, 0, 1)) for number, name in [(1, "first"), (2, "second")]]
+        self.no_race(made[0], (4, length_of(late[0][1]) // 4), made[1], (4, length_of(late[1][1]) // 4), (3, [*looked_at(), *load()]), routines=late)
+
+    def test_not_executed(self):
+        """A thread that acts on a request where its fence stands hasn't executed that."""
+        pushed = [*call(Call.CLEANUP_PUSH, Label("handler"), 0), *call(Call.SETCANCELTYPE, 1)]
+        turns = [(3, pushed), (2, [*store(), *published()]), (3, relaxed_load()), (1, call(Call.CANCEL, 3)), (3, [FENCE_RW_RW]), (3, 4)]
+        self.race(*turns, routines=[("handler", load())])
+        self.no_race(*turns[:3], turns[4], turns[3], (3, 4), routines=[("handler", load())])
+
+    def test_as_a_kit_has_them(self):
+        """Relaxed accesses under its locks are told, and fences there order; what was passed on stays where memory is given anew."""
+        self.race((2, locked(relaxed_store(), 3)), (3, load(8)), races=["2 stores atomically, 3 loads, once"])
+        self.no_race((2, [*store(), *locked([FENCE_RW_RW, *relaxed_store()], 3)]), (3, [*locked([*relaxed_load(), FENCE_RW_RW], 3), *load()]))
+        self.no_race((2, [*store(), FENCE_RW_RW, *relaxed_store()]), (3, [*anew(8, 4), *relaxed_load(), FENCE_RW_RW, *load()]))
+
+    def test_stretches(self):
+        """A fence, a load or what was given up before the stretch is of no account there."""
+        recording = recording_of([(2, [FENCE_RW_RW]), (3, relaxed_load()), (2, [*store(), *relaxed_store()]), (3, [FENCE_RW_RW, *load()])])
+        for first in (0, 4, 6):
+            self.assertEqual([short(line) for line in recording.show(Readings(), first).lines()], ["2 stores, 3 loads, once"])
+        recording = recording_of([(2, [*store(), *published()]), (3, relaxed_load()), (2, store()), (3, [FENCE_RW_RW, *load()])])
+        for first in (0, 4, 6):
+            self.assertEqual([short(line) for line in recording.show(Readings(), first).lines()], ["2 stores, 3 loads, once"])
+
+
 class Threads(WithKeys):
     def test_create_and_join(self):
         create = call(Call.CREATE, Label("late"), 0, 0, 0)
@@ -613,6 +809,28 @@ class Met(WithKeys):
         self.assertEqual(self.met((2, [*store(0, BYTE), *store(1, BYTE)]), (3, load(1, BYTE))), {})
         self.assertEqual(self.met((2, load()), (3, store())), {})
 
+    def test_memory_orders(self):
+        """Each where another rule would tell otherwise; an order that takes both fences is that of both alone."""
+        given, passed, taken = [*store(), *published()], [*store(), FENCE_RW_RW, *relaxed_store()], [*relaxed_load(), FENCE_RW_RW, *load()]
+        none = {"none, from the begin": 1}
+        for turns, met in [
+            ([(2, given), (3, [*looked_at(), *load()])], none),
+            ([(2, given), (3, [*relaxed_load(), *load()])], {LOADS_ORDER: 1}),
+            ([(2, [*store(), *relaxed_store()]), (3, [*looked_at(), *load()])], {STORES_ORDER: 1}),
+            ([(2, [*store(), *relaxed_store()]), (3, [*relaxed_load(), *load()])], {}),
+            ([(2, passed), (3, [*looked_at(), *load()])], {**none, BEFORE_STORES: 1}),
+            ([(2, given), (3, taken)], {**none, BEHIND_LOADS: 1}),
+            ([(2, passed), (3, taken)], {**none, BOTH_SIDES: 1}),
+            ([(2, [*store(), FENCE_RW_RW, *store(4), *relaxed_store()]), (3, [*looked_at(), *load(4)])], {STORES_ORDER: 1}),
+            ([(2, given), (4, relaxed_store()), (3, [*looked_at(), *load()])], {**none, STAYS: 1}),
+            ([(2, given), (4, published()), (3, [*looked_at(), *load()])], none),
+            ([(3, relaxed_load()), (2, given), (3, [FENCE_RW_RW, *load()])], {GIVEN_LATER: 1}),
+            ([(3, relaxed_load(12)), (2, given), (3, [FENCE_RW_RW, *load()])], {}),
+            ([(2, given), (3, [*looked_at(8 + 4096), *load()])], {**none, AS_ONE: 1}),
+            ([(2, given), (3, [*looked_at(8 + 4096), *load(), *load()])], {**none, AS_ONE: 2}),
+        ]:
+            self.assertEqual(self.met(*turns, threads=3), met)
+
     def test_each(self):
         none = {"none, from the begin": 1}
         self.assertEqual(self.met((2, load())), none)
@@ -633,7 +851,7 @@ class Met(WithKeys):
 
     def test_not_met(self):
         tally = Counter({(subject, what): 1 for subject, rules in RULES.items() for what in rules})
-        self.assertEqual((rules_not_met(tally), len(tally)), ([], 9))
+        self.assertEqual((rules_not_met(tally), len(tally)), ([], 17))
         for subject, rules in RULES.items():
             for what, rule in rules.items():
                 missed = Counter({**tally, (subject, what): 0})
@@ -641,12 +859,13 @@ class Met(WithKeys):
                 self.assertEqual(rules_not_met(missed, [OF_KIT]), [rule] if subject == OF_KIT else [])
 
     def test_drawn(self):
-        """A plain case meets each."""
-        case, tally = case_of("kit", 2), Counter()
-        for stretch in [(None, None), *case.stretches[-2:]]:
-            readings = Recording(bytearray(case.contents)).show(Readings(), *stretch)
-            tell_met(readings, readings.narrow.lines(), tally)
-        self.assertEqual(rules_not_met(tally), [])
+        """A plain case meets each about a kit and bytes, and one of passes each about memory orders."""
+        for kind, subjects, count in [("kit", [OF_KIT, OF_BYTES], 2), ("orders", [OF_ORDERS], 0)]:
+            case, tally = case_of(kind, 2), Counter()
+            for stretch in [(None, None), *case.stretches[len(case.stretches) - count:]]:
+                readings = Recording(bytearray(case.contents)).show(Readings(), *stretch)
+                tell_met(readings, readings.narrow.lines(), tally)
+            self.assertEqual(rules_not_met(tally, subjects), [])
 
 
 class AllAccesses:
@@ -696,6 +915,7 @@ class Chains:
 
     def __init__(self):
         self.last, self.behind, self.given, self.count = {}, {}, {}, 0
+        self.fences, self.found = {}, {}
 
     def do(self, thread):
         """A doing, which is a number."""
@@ -713,6 +933,24 @@ class Chains:
         doing = self.do(thread)
         for given in self.given.get(holder, []):
             self.behind[given].add(doing)
+
+    def store(self, thread, word, is_ordering):
+        """A relaxed one hands on the fence, where there was one."""
+        if is_ordering:
+            self.give(thread, word % 4096)
+        elif thread in self.fences:
+            self.given.setdefault(word % 4096, []).append(self.fences[thread])
+
+    def load(self, thread, word, is_ordering):
+        if is_ordering:
+            self.take(thread, word % 4096)
+        else:
+            self.found.setdefault(thread, []).extend(self.given.get(word % 4096, []))
+
+    def fence(self, thread):
+        self.fences[thread] = self.do(thread)
+        for given in self.found.get(thread, []):
+            self.behind[given].add(self.fences[thread])
 
     def lead(self, thread, other):
         first, second = self.do(thread), self.do(other)
@@ -736,12 +974,15 @@ class Chains:
 
 class ClocksAndChains(unittest.TestCase):
     def test_drawn_ways(self):
-        for seed in range(300):
+        flags = [8, 8, 8 + 4096, 12]
+        for seed in range(600):
             chance, ways, doings = Random(seed), (Clocks(), Chains()), []
             for _ in range(40):
                 thread, other = chance.sample(range(1, 6), 2)
                 name, *words = chance.choice([("give", thread, chance.choice("ab")), ("take", thread, chance.choice("ab")),
-                                              ("lead", thread, other), ("meet", [thread, other]), ("do", thread), ("do", thread)])
+                                              ("lead", thread, other), ("meet", [thread, other]), ("do", thread), ("do", thread), ("fence", thread),
+                                              ("store", thread, chance.choice(flags), chance.random() < 0.2), ("fence", thread),
+                                              ("load", thread, chance.choice(flags), chance.random() < 0.2)])
                 if name == "do":
                     doings.append((thread, ways[0].epoch(thread), ways[1].do(thread)))
                 else:

@@ -20,7 +20,7 @@ TIME_LIMIT = 900  # seconds of a test
 FIRST = {
     "lives": "lives", "foreseen": "lives", "ledger": "fates", "devices": "fates", "key_calls": "keys", "events": "long_runs", "plans": "plans",
     **dict.fromkeys(["feeding", "driven"], "feeding"), **dict.fromkeys(["call_lines", "recorded", "compare"], "call_lines"),
-    **dict.fromkeys(["clocks", "accesses", "orders", "races"], "races"), **dict.fromkeys(["stretches", "timelines", "pictures"], "timelines"),
+    **dict.fromkeys(["clocks", "accesses", "orders", "races", "other_rules"], "races"), **dict.fromkeys(["stretches", "timelines", "pictures"], "timelines"),
     "hunts": "hunts", **dict.fromkeys(["raced", "race_rows"], "raced"), "stubs": "stubs",
     **dict.fromkeys(["begun", "debugged", "damage", "histories", "older_areas"], "begun"),
     **dict.fromkeys(["motions", "moved", "stepped"], "motions"), **dict.fromkeys(["profiles", "profiled"], "profiles"),
