@@ -3,7 +3,7 @@ ghost use Rattle.std.specs.Prelude.{◌≡◌, ◌≢◌, ◌+◌, ◌/◌, ◌%
 ghost use Rattle.ckrt_memory.specs.Marks.{has_bit, IsNextDirty};
 
 /// How many pages a memory has at most, page 0 counted.
-pub const PAGES_LIMIT: usize = 1024;
+pub const PAGES_LIMIT: usize = 65_536;
 
 /// How many marks are looked at together.
 const GROUP: usize = 32;
@@ -32,9 +32,9 @@ fn all_bits(marks: &[u8]) -> u8
 
 /// Whether none of a group of marks, from this one on, has the bit of an area.
 #[inline(always)]
-fn is_group_clean(marks: &[u8; 1024], area: usize, first: usize) -> bool
+fn is_group_clean(marks: &[u8; 65536], area: usize, first: usize) -> bool
     requires area { area ≤ 1 }
-    requires group { first + 32 ≤ 1024 }
+    requires group { first + 32 ≤ 65536 }
     ensures { result ≡ true → (p : ℕ) → first ≤ p → p < first + 32
         → has_bit area (slice_index marks.now p) ≡ false }
 {
@@ -42,9 +42,9 @@ fn is_group_clean(marks: &[u8; 1024], area: usize, first: usize) -> bool
 }
 
 /// The first page from `from` on whose mark has the bit of an area, or `end` where none below it has.
-pub fn next_marked(marks: &[u8; 1024], area: usize, from: usize, end: usize) -> usize
+pub fn next_marked(marks: &[u8; 65536], area: usize, from: usize, end: usize) -> usize
     requires area { area ≤ 1 }
-    requires range { (from ≤ end) × (end ≤ 1024) }
+    requires range { (from ≤ end) × (end ≤ 65536) }
     ensures { IsNextDirty area from end
         (record { bytes = []; marks = marks.now; room = record { bytes = 0; words = 0 } })
         result }
@@ -73,7 +73,7 @@ fn cleaned(mark: u8, area: usize) -> u8
 }
 
 /// Takes the marks for an area away.
-pub fn clean_marks(marks: &mut [u8; 1024], area: usize)
+pub fn clean_marks(marks: &mut [u8; 65536], area: usize)
     requires { area ≤ 1 }
     ensures length { length marks.new ≡ length marks.old }
     ensures clean { (p : ℕ) → slice_index marks.new p / 2 ^ area % 2 ≡ 0 }
