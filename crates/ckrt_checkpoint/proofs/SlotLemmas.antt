@@ -49,7 +49,7 @@ memory_stands c area memory image is p some below =
         ∙ ap (λ (l : List ℕ). take 4096 l) (drop-drop n at image)
 
 -- so once that area's marks were taken away from a memory that was dirty everywhere, the clean pages stand
-pub read_stand : (c : Config) (area : ℕ) (dirty clean : Memory) (image : List ℕ) → area ≤ 1 → c.pages ≤ 1024 → IsAllDirty dirty → IsCleaned area dirty clean → dirty.bytes ≡ memory_of c area image → BothStand c clean image
+pub read_stand : (c : Config) (area : ℕ) (dirty clean : Memory) (image : List ℕ) → area ≤ 1 → c.pages ≤ 65536 → IsAllDirty dirty → IsCleaned area dirty clean → dirty.bytes ≡ memory_of c area image → BothStand c clean image
 read_stand c area dirty clean image low few all cleaned is b most = elim (cases_eq b area) [
   | inl same ↦ subst (λ n. CleanPagesStand c n clean image) (sym same) (cleaned_stand c area dirty clean image cleaned (memory_stands c area dirty.bytes image is))
   | inr other ↦ other_stand c area b dirty clean image most other cleaned (λ p some below is_clean. absurd (dirty_or_clean (sym (all b p most (omega (arith, below, few))) ∙ is_clean)))

@@ -12,7 +12,7 @@ use Rattle.ckrt_checkpoint.specs.declared.header.Header.{Header}
 -- the ranges of a configuration (this project's choice)
 abbrev pub is_valid : Config → Bool
 is_valid c =
-    (nat_le 16 c.pages && nat_le c.pages 1024)
+    (nat_le 16 c.pages && nat_le c.pages 65536)
     && ((nat_le 1 c.harts && nat_le c.harts 8)
     && (c.journal % 4096 == 0 && (nat_le 4096 c.journal && nat_le c.journal 1048576)))
 

@@ -5,7 +5,7 @@ ghost use Rattle.ckrt_checkpoint.specs.Layout.{is_valid};
 /// What a disk is formatted with.
 #[derive(Clone, Copy, Debug, PartialEq, Eq)]
 pub struct Config {
-    /// Pages of guest memory, of 4,096 bytes each, the first of which is never valid: 16 to 1,024.
+    /// Pages of guest memory, of 4,096 bytes each, the first of which is never valid: 16 to 65,536.
     pub pages: u32,
     /// Harts: 1 to 8.
     pub harts: u32,
@@ -19,7 +19,7 @@ impl Config {
         ensures { result ≡ is_valid self.now }
     {
         16 <= self.pages
-            && self.pages <= 1_024
+            && self.pages <= 65_536
             && 1 <= self.harts
             && self.harts <= 8
             && self.journal % 4_096 == 0

@@ -66,8 +66,8 @@ fn is_outside(least: u32, most: u32, number: u32) -> bool {
 
 /// Which of these sizes no disk has.
 fn sizes_of_no_disk(sizes: Config) -> Sentence<'static> {
-    if is_outside(16, 1_024, sizes.pages) {
-        return size("--pages ", sizes.pages, " isn't 16 to 1024: ");
+    if is_outside(16, 65_536, sizes.pages) {
+        return size("--pages ", sizes.pages, " isn't 16 to 65536: ");
     }
     if is_outside(1, 8, sizes.harts) {
         return size("--harts ", sizes.harts, " isn't 1 to 8: ");

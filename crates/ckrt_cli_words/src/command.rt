@@ -103,7 +103,7 @@ fn format_arguments<'a>(alloc: Global) -> Result<Vec<Arg<'a>>, AllocError>
             "IMAGE",
             "The guest program, a flat binary linked at 0x1000"
         ),
-        number(alloc, "pages", "64", "Pages of guest memory, 16 to 1024"),
+        number(alloc, "pages", "64", "Pages of guest memory, 16 to 65536"),
         number(alloc, "harts", "1", "Harts, 1 to 8"),
         number(
             alloc,
@@ -495,7 +495,7 @@ fn drive_arguments<'a>(alloc: Global) -> Result<Vec<Arg<'a>>, AllocError>
         size(
             alloc,
             "pages",
-            "Pages of guest memory, 16 to 1024; 64 for a disk that is made"
+            "Pages of guest memory, 16 to 65536; 64 for a disk that is made"
         ),
         size(alloc, "harts", "Harts, 1 to 8; 1 for a disk that is made"),
         size(

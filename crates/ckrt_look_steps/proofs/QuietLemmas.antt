@@ -98,7 +98,7 @@ calls_there h m = go (is_valid m h.pc size.Word)
 
 -- SO THE REASON IS MET AT JUMPS ALONE: an instruction that neither jumps nor calls is no ECALL, and no gate is in a memory
 
-pub no_gate : (pc : ℕ) → pc < 4194304 → is_at_gate pc ≡ false
+pub no_gate : (pc : ℕ) → pc < 268435456 → is_at_gate pc ≡ false
 no_gate pc low =
     let first : (pc == RETURN_GATE) ≡ false = grind (arith, nat_tests, low) in
     let second : (pc == UNWIND_GATE) ≡ false = grind (arith, nat_tests, low) in

@@ -16,13 +16,13 @@ use Rattle.ckrt_rv32i.specs.declared.execution.Outcome.TheVariants.{Next, Call, 
 use Rattle.ckrt_rv32i.specs.declared.execution.Cause.{Cause}
 use Rattle.ckrt_rv32i.specs.declared.execution.Cause.TheVariants as cause
 
-pub gate_faults : (h : Registers) (m : List ℕ) → length m < 4194304 → 4294967280 ≤ h.pc → (instruction_step h m).outcome ≡ Fault cause.FetchRange
+pub gate_faults : (h : Registers) (m : List ℕ) → length m < 268435456 → 4294967280 ≤ h.pc → (instruction_step h m).outcome ≡ Fault cause.FetchRange
 gate_faults h m l g =
     let v : is_valid m h.pc size.Word ≡ false = grind (arith, nat_tests) in
     ap (λ b. (cond b (performed (instruction_of (loaded m h.pc size.Word)) h m) (fault cause.FetchRange h m)).outcome) v
 
 -- a memory ends far below the gates
-pub small_memory : (size : ℕ) → IsMemorySize size → size < 4194304
+pub small_memory : (size : ℕ) → IsMemorySize size → size < 268435456
 small_memory size h = let most = h.2 in omega arith
 
 -- THE PC STAYS A MULTIPLE OF 4

@@ -32,7 +32,7 @@ pub hart_is : (h t : ℕ) (l : Live) (r : Registers) (m : List ℕ) (s : Tables)
 hart_is h t l r m s e f = ap (λ o. step_of o (at t r m s)) e ∙ ap (λ o. slot_step o t (at t r m s)) (regs_read t r l s.threads f)
 
 -- away from the gates
-apart : (r : Registers) (m : List ℕ) (o : Outcome) → length m < 4194304 → (instruction_step r m).outcome ≡ o → ((c : _) → o ≡ Fault c → ⊥) → ((r.pc == 4294967280) ≡ false) × ((r.pc == 4294967284) ≡ false)
+apart : (r : Registers) (m : List ℕ) (o : Outcome) → length m < 268435456 → (instruction_step r m).outcome ≡ o → ((c : _) → o ≡ Fault c → ⊥) → ((r.pc == 4294967280) ≡ false) × ((r.pc == 4294967284) ≡ false)
 apart r m o l e n =
     let f : 4294967280 ≤ r.pc → ⊥ = λ g. n cause.FetchRange (sym e ∙ gate_faults r m l g) in
     (grind (arith, nat_tests, f), grind (arith, nat_tests, f))
@@ -40,13 +40,13 @@ apart r m o l e n =
 -- THE STEPS OF A BURST, by a thread without a request that is immediate
 
 -- a step that goes on
-pub goes : (t : ℕ) (l : Live) (r : Registers) (m : List ℕ) (s : Tables) → is_immediate l.cancellation ≡ false → length m < 4194304 → (instruction_step r m).outcome ≡ Next → thread_step (threads.with_regs r l) t (at t r m s) ≡ quiet (at t (instruction_step r m).registers (instruction_step r m).bytes s)
+pub goes : (t : ℕ) (l : Live) (r : Registers) (m : List ℕ) (s : Tables) → is_immediate l.cancellation ≡ false → length m < 268435456 → (instruction_step r m).outcome ≡ Next → thread_step (threads.with_regs r l) t (at t r m s) ≡ quiet (at t (instruction_step r m).registers (instruction_step r m).bytes s)
 goes t l r m s n z e =
     let away = apart r m Next z e (λ c x. cc) in
     rw (n, away.0, away.1, e, twice t (instruction_step r m).registers r s) refl
 
 -- the last step of a burst
-last_call : (t : ℕ) (l : Live) (r : Registers) (m : List ℕ) (s : Tables) → is_immediate l.cancellation ≡ false → length m < 4194304 → (instruction_step r m).outcome ≡ Call → thread_step (threads.with_regs r l) t (at t r m s) ≡ ending Call t (at t (instruction_step r m).registers (instruction_step r m).bytes s)
+last_call : (t : ℕ) (l : Live) (r : Registers) (m : List ℕ) (s : Tables) → is_immediate l.cancellation ≡ false → length m < 268435456 → (instruction_step r m).outcome ≡ Call → thread_step (threads.with_regs r l) t (at t r m s) ≡ ending Call t (at t (instruction_step r m).registers (instruction_step r m).bytes s)
 last_call t l r m s n z e =
     let away = apart r m Call z e (λ c x. cc) in
     let made : thread_step (threads.with_regs r l) t (at t r m s) ≡ performed Call t (instruction_step r m).registers (instruction_step r m).bytes (at t r m s) = rw (n, away.0, away.1, e) refl in
@@ -57,7 +57,7 @@ last_fault c t l r m s f n e =
     let k = kept r m in
     rw (k.registers c e, k.bytes c e, e, n) (sym (ap (λ o. fault_ending c o t (at t r m s)) (regs_read t r l s.threads f)))
 
-pub last : (o : Outcome) (t : ℕ) (l : Live) (r : Registers) (m : List ℕ) (s : Tables) → threads.thread_of s.threads t ≡ Some (thread.Live l) → is_immediate l.cancellation ≡ false → length m < 4194304 → (instruction_step r m).outcome ≡ o → is_next o ≡ false → thread_step (threads.with_regs r l) t (at t r m s) ≡ ending o t (at t (instruction_step r m).registers (instruction_step r m).bytes s)
+pub last : (o : Outcome) (t : ℕ) (l : Live) (r : Registers) (m : List ℕ) (s : Tables) → threads.thread_of s.threads t ≡ Some (thread.Live l) → is_immediate l.cancellation ≡ false → length m < 268435456 → (instruction_step r m).outcome ≡ o → is_next o ≡ false → thread_step (threads.with_regs r l) t (at t r m s) ≡ ending o t (at t (instruction_step r m).registers (instruction_step r m).bytes s)
 last Next t l r m s f n z e k = absurd (cc)
 last Call t l r m s f n z e k = last_call t l r m s n z e
 last (Fault c) t l r m s f n z e k = last_fault c t l r m s f n e
@@ -89,7 +89,7 @@ pub record Begins (h t : ℕ) (l : Live) (s : Tables) (out : List ℕ) : Type 0 
   pub going : stop_of h s out ≡ None
 
 -- a run goes through its bursts
-pub bursts : (n h t : ℕ) (l : Live) (r : Registers) (m : List ℕ) (s : Tables) (out : List ℕ) → Begins h t l s out → is_immediate l.cancellation ≡ false → length m < 4194304
+pub bursts : (n h t : ℕ) (l : Live) (r : Registers) (m : List ℕ) (s : Tables) (out : List ℕ) → Begins h t l s out → is_immediate l.cancellation ≡ false → length m < 268435456
     → run_on n h (at t r m s) out ≡ resumed_from (burst n r m) h t s out
 bursts zero h t l r m s out b i z = refl
 bursts (suc n) h t l r m s out b i z =
@@ -109,7 +109,7 @@ pub same : (t : ℕ) (l : Live) (m : List ℕ) (s : Tables) → threads.thread_o
 same t l m s e = ap (λ x. record { bytes = m; tables = record s { threads = x } }) (regs_same t l s.threads e)
 
 -- a turn: a burst, and nothing is left
-pub turned_out : (n h t : ℕ) (l : Live) (r : Registers) (m b : List ℕ) (s z : Tables) (out : List ℕ) (o : Outcome) (k : ℕ) → Begins h t l s out → is_immediate l.cancellation ≡ false → length m < 4194304
+pub turned_out : (n h t : ℕ) (l : Live) (r : Registers) (m b : List ℕ) (s z : Tables) (out : List ℕ) (o : Outcome) (k : ℕ) → Begins h t l s out → is_immediate l.cancellation ≡ false → length m < 268435456
     → record { left = k; effect = record { outcome = o; registers = r; bytes = b } } ≡ burst n l.regs m → k ≡ 0 → z ≡ with_regs t r s
     → run_on n h (record { bytes = m; tables = s }) out ≡ record { left = 0; how = On; state = record { bytes = b; tables = z }; output = out }
 turned_out n h t l r m b s z out o k e i q u v w =
@@ -119,7 +119,7 @@ turned_out n h t l r m b s z out o k e i q u v w =
     ∙ rw (v, w) refl))
 
 -- a turn: a burst, and what ends it
-pub turned : (n h t : ℕ) (l : Live) (r : Registers) (m b : List ℕ) (s y z : Tables) (out : List ℕ) (o : Outcome) (p : Option ℕ) (k j : ℕ) → k ≡ suc j → Begins h t l s out → is_immediate l.cancellation ≡ false → length m < 4194304
+pub turned : (n h t : ℕ) (l : Live) (r : Registers) (m b : List ℕ) (s y z : Tables) (out : List ℕ) (o : Outcome) (p : Option ℕ) (k j : ℕ) → k ≡ suc j → Begins h t l s out → is_immediate l.cancellation ≡ false → length m < 268435456
     → record { left = k; effect = record { outcome = o; registers = r; bytes = b } } ≡ burst n l.regs m → y ≡ with_regs t r s
     → record { state = record { bytes = b; tables = z }; put = p } ≡ ending o t (record { bytes = b; tables = y })
     → run_on n h (record { bytes = m; tables = s }) out ≡ stopped (run_on j) (stop_of h z (with_byte p out)) j h (record { bytes = b; tables = z }) (with_byte p out)

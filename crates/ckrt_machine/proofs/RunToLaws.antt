@@ -49,7 +49,7 @@ module _ (meets : Meets) (h t : ℕ) (l : Live) (s : Tables) (out : List ℕ) (b
       ∙ ap (continued_to (run_to meets n) n h out) is
 
   module _ (i : is_immediate l.cancellation ≡ false) where
-    pub bursts_to : (n : ℕ) (r : Registers) (m : List ℕ) → length m < 4194304 → run_to meets n h (at t r m s) out ≡ resumed_to meets (burst_to meets n r m).left (burst_to meets n r m).effect h t s out
+    pub bursts_to : (n : ℕ) (r : Registers) (m : List ℕ) → length m < 268435456 → run_to meets n h (at t r m s) out ≡ resumed_to meets (burst_to meets n r m).left (burst_to meets n r m).effect h t s out
     bursts_to zero r m z = refl
     bursts_to (suc n) r m z =
         let here = hart_is h t l r m s b.on b.live in
@@ -69,7 +69,7 @@ module _ (meets : Meets) (h t : ℕ) (l : Live) (s : Tables) (out : List ℕ) (b
               ] refl
         ] refl
 
-    module _ (n : ℕ) (m : List ℕ) (small : length m < 4194304) where
+    module _ (n : ℕ) (m : List ℕ) (small : length m < 268435456) where
       from_here : run_to meets n h (record { bytes = m; tables = s }) out ≡ resumed_to meets (burst_to meets n l.regs m).left (burst_to meets n l.regs m).effect h t s out
       from_here = ap (λ x. run_to meets n h x out) (sym (same t l m s b.live)) ∙ bursts_to n l.regs m small
 
@@ -104,7 +104,7 @@ module _ (meets : Meets) (h t : ℕ) (l : Live) (s : Tables) (out : List ℕ) (b
         same_burst over = is ∙ as_burst meets n l.regs m (ap (λ (x : Burst). is_next x.effect.outcome) (sym is) ∙ over)
 
     -- what is stored to behind a burst up to the reason is stored to in the run
-    pub met_stores : (n : ℕ) (r : Registers) (m : List ℕ) → length m < 4194304 → is_next (burst_to meets n r m).effect.outcome ≡ true
+    pub met_stores : (n : ℕ) (r : Registers) (m : List ℕ) → length m < 268435456 → is_next (burst_to meets n r m).effect.outcome ≡ true
         → AreWithin (stored_in_run (burst_to meets n r m).left h (at t (burst_to meets n r m).effect.registers (burst_to meets n r m).effect.bytes s) out) (stored_in_run n h (at t r m s) out)
     met_stores zero r m z on p has = has
     met_stores (suc n) r m z on p has =
@@ -125,7 +125,7 @@ module _ (meets : Meets) (h t : ℕ) (l : Live) (s : Tables) (out : List ℕ) (b
         true_or_false : true ≡ false → ⊥
         true_or_false e = absurd (cc)
 
-    pub met_rest : (n : ℕ) (m d : List ℕ) (r : Registers) (o : Outcome) (k : ℕ) (z : Tables) → length m < 4194304 → record { left = k; effect = record { outcome = o; registers = r; bytes = d } } ≡ burst_to meets n l.regs m → o ≡ Next → z ≡ with_regs t r s
+    pub met_rest : (n : ℕ) (m d : List ℕ) (r : Registers) (o : Outcome) (k : ℕ) (z : Tables) → length m < 268435456 → record { left = k; effect = record { outcome = o; registers = r; bytes = d } } ≡ burst_to meets n l.regs m → o ≡ Next → z ≡ with_regs t r s
         → AreWithin (stored_in_run k h (record { bytes = d; tables = z }) out) (stored_in_run n h (record { bytes = m; tables = s }) out)
     met_rest n m d r o k z small is on w p has =
         subst (λ (x : State). HasOneOf p (stored_in_run n h x out)) (same t l m s b.live)

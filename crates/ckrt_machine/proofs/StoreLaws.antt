@@ -43,7 +43,7 @@ abbrev rest : ℕ → Registers → List ℕ → List ℕ
 rest n r m = stored_in_burst n (instruction_step r m).registers (instruction_step r m).bytes
 
 -- a run stores where its bursts do, and behind them
-pub bursts_store : (n h t : ℕ) (l : Live) (r : Registers) (m : List ℕ) (s : Tables) (out : List ℕ) → Begins h t l s out → is_immediate l.cancellation ≡ false → length m < 4194304
+pub bursts_store : (n h t : ℕ) (l : Live) (r : Registers) (m : List ℕ) (s : Tables) (out : List ℕ) → Begins h t l s out → is_immediate l.cancellation ≡ false → length m < 268435456
     → stored_in_run n h (at t r m s) out ≡ stored_in_burst n r m ++ stored_after (burst n r m) h t s out
 bursts_store zero h t l r m s out b i z = refl
 bursts_store (suc n) h t l r m s out b i z =
@@ -73,14 +73,14 @@ unstopped page None more on has = has
 unstopped page (Some how) more on has = absurd (cc)
 
 -- the burst of a turn stores where the run does
-pub turn_stores : (n h t : ℕ) (l : Live) (m : List ℕ) (s : Tables) (out : List ℕ) → Begins h t l s out → is_immediate l.cancellation ≡ false → length m < 4194304
+pub turn_stores : (n h t : ℕ) (l : Live) (m : List ℕ) (s : Tables) (out : List ℕ) → Begins h t l s out → is_immediate l.cancellation ≡ false → length m < 268435456
     → AreWithin (stored_in_burst n l.regs m) (stored_in_run n h (record { bytes = m; tables = s }) out)
 turn_stores n h t l m s out b i z p has =
     subst (λ (x : State). HasOneOf p (stored_in_run n h x out)) (same t l m s b.live)
     (subst (λ (a : List ℕ). HasOneOf p a) (sym (bursts_store n h t l l.regs m s out b i z)) (has_left p _ _ has))
 
 -- what is stored to behind a turn that doesn't end the run is stored to in the run
-pub behind_stores : (n h t : ℕ) (l : Live) (r : Registers) (m b : List ℕ) (s y z : Tables) (out : List ℕ) (o : Outcome) (p : Option ℕ) (k j : ℕ) → k ≡ suc j → Begins h t l s out → is_immediate l.cancellation ≡ false → length m < 4194304
+pub behind_stores : (n h t : ℕ) (l : Live) (r : Registers) (m b : List ℕ) (s y z : Tables) (out : List ℕ) (o : Outcome) (p : Option ℕ) (k j : ℕ) → k ≡ suc j → Begins h t l s out → is_immediate l.cancellation ≡ false → length m < 268435456
     → record { left = k; effect = record { outcome = o; registers = r; bytes = b } } ≡ burst n l.regs m → y ≡ with_regs t r s
     → record { state = record { bytes = b; tables = z }; put = p } ≡ ending o t (record { bytes = b; tables = y }) → is_some (stop_of h z (with_byte p out)) ≡ false
     → AreWithin (stored_in_run j h (record { bytes = b; tables = z }) (with_byte p out)) (stored_in_run n h (record { bytes = m; tables = s }) out)

@@ -62,10 +62,10 @@ impl Model for Machine {
 
 impl Machine {
     /// A program that begins: thread 1, ready, with the image at the start of page 1, and idle
-    /// harts. Each page is dirty for both areas. `pages` counts page 0 too, which is never valid: 16 to 1,024; `harts` is 1
+    /// harts. Each page is dirty for both areas. `pages` counts page 0 too, which is never valid: 16 to 65,536; `harts` is 1
     /// to 8.
     pub fn new(alloc: Global, pages: u32, harts: usize, image: &[u8]) -> Result<Self, MemoryError>
-        requires pages { (16 ≤ pages) × (pages ≤ 1024) }
+        requires pages { (16 ≤ pages) × (pages ≤ 65536) }
         requires harts { (1 ≤ harts) × (harts ≤ 8) }
         ensures fresh { IfOk result (λ m. m.state ≡ fresh pages harts image.now) }
         ensures output { IfOk result (λ m. m.output ≡ []) }
@@ -100,7 +100,7 @@ impl Machine {
     /// What holds of every machine: its tables are well-formed, and its memory is below 4 MiB.
     pub fn known(&self)
         ensures well_formed { IsWellFormed self.now.state.tables }
-        ensures memory { length self.now.state.bytes < 4194304 }
+        ensures memory { length self.now.state.bytes < 268435456 }
     {
         self.memory.known();
     }

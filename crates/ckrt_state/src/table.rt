@@ -39,10 +39,10 @@ pub struct Tables {
 }
 
 impl Tables {
-    /// The tables of a program that begins, with that many pages of memory (16 to 1,024) and that many harts (1 to 8).
+    /// The tables of a program that begins, with that many pages of memory (16 to 65,536) and that many harts (1 to 8).
     /// The only error is that the memory for them is refused.
     pub fn new(alloc: Global, pages: u32, harts: usize) -> Result<Self, AllocError>
-        requires pages { pages ≤ 1024 }
+        requires pages { pages ≤ 65536 }
         requires harts { harts ≤ 8 }
         ensures fresh { IfOk result (λ tables. tables ≡ fresh pages harts) }
         ensures well_formed { IfOk result IsWellFormed }

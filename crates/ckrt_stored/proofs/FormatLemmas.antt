@@ -98,7 +98,7 @@ some_pages c valid = (grind (arith, nat_tests, valid), grind (arith, nat_tests, 
 fits : (c : Config) → is_valid c ≡ true → (c.pages < 256 ^ 4) × (c.harts < 256 ^ 4) × (c.journal < 256 ^ 4)
 fits c valid = (grind (arith, nat_tests, valid), grind (arith, nat_tests, valid), grind (arith, nat_tests, valid))
 
-few : (c : Config) → is_valid c ≡ true → (c.pages ≤ 1024) × (c.harts ≤ 8)
+few : (c : Config) → is_valid c ≡ true → (c.pages ≤ 65536) × (c.harts ≤ 8)
 few c valid = (grind (arith, nat_tests, valid), grind (arith, nat_tests, valid))
 
 -- the encoding of the tables of a program that hasn't begun

@@ -87,7 +87,7 @@ fresh_registers_fit : (stack : ℕ) → is_word stack ≡ true → fit_registers
 fresh_registers_fit stack small =
     all_set is_word (slice_set (replicate 32 0) RA RETURN_GATE) SP stack (all_set is_word (replicate 32 0) RA RETURN_GATE refl refl) small
 
-fresh_fits : (pages harts : ℕ) → pages ≤ 1024 → Fit (fresh pages harts)
+fresh_fits : (pages harts : ℕ) → pages ≤ 65536 → Fit (fresh pages harts)
 fresh_fits pages harts few =
     let small : is_word (4096 * pages) ≡ true = grind (arith, nat_tests, few) in
     let registers = fresh_registers_fit (4096 * pages) small in
@@ -105,7 +105,7 @@ fresh_fits pages harts few =
       input = refl;
     }
 
-pub fresh_savable : (pages harts : ℕ) → pages ≤ 1024 → harts ≤ 8 → CanBeSaved 2 harts (fresh pages harts) []
+pub fresh_savable : (pages harts : ℕ) → pages ≤ 65536 → harts ≤ 8 → CanBeSaved 2 harts (fresh pages harts) []
 fresh_savable pages harts few_pages few_harts = record {
   well_formed = well_formed_fresh pages harts few_harts;
   fit = fresh_fits pages harts few_pages;
@@ -115,7 +115,7 @@ fresh_savable pages harts few_pages few_harts = record {
   held_bytes = refl;
 }
 
-fresh_fits_1 : (pages harts : ℕ) → pages ≤ 1024 → Fit (with_keys_off (fresh pages harts))
+fresh_fits_1 : (pages harts : ℕ) → pages ≤ 65536 → Fit (with_keys_off (fresh pages harts))
 fresh_fits_1 pages harts few =
     let on = fresh_fits pages harts few in
     record {
@@ -131,7 +131,7 @@ fresh_fits_1 pages harts few =
       input = on.input;
     }
 
-pub fresh_savable_1 : (pages harts : ℕ) → pages ≤ 1024 → harts ≤ 8 → CanBeSaved 1 harts (with_keys_off (fresh pages harts)) []
+pub fresh_savable_1 : (pages harts : ℕ) → pages ≤ 65536 → harts ≤ 8 → CanBeSaved 1 harts (with_keys_off (fresh pages harts)) []
 fresh_savable_1 pages harts few_pages few_harts = record {
   well_formed = well_formed_keys_off pages harts few_harts;
   fit = fresh_fits_1 pages harts few_pages;

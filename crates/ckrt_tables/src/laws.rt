@@ -40,8 +40,8 @@ pub fn decodes_to_one()
 
 /// The tables of a program that hasn't begun, without output, can be saved, also in version 1, where keys are off.
 pub fn fresh_is_savable()
-    ensures version_2 { (pages harts : ℕ) → pages ≤ 1024 → harts ≤ 8
+    ensures version_2 { (pages harts : ℕ) → pages ≤ 65536 → harts ≤ 8
         → CanBeSaved 2 harts (fresh pages harts) [] }
-    ensures version_1 { (pages harts : ℕ) → pages ≤ 1024 → harts ≤ 8
+    ensures version_1 { (pages harts : ℕ) → pages ≤ 65536 → harts ≤ 8
         → CanBeSaved 1 harts (with_keys_off (fresh pages harts)) [] }
 {}

@@ -8,6 +8,6 @@ use Rattle.ckrt_checkpoint.proofs.reading.read_memory.Goals as goal
 pub returns-clause-pages : goal.returns-clause-pages
 returns-clause-pages g c = λ honest.
     let config = c.args.config.now in let area = c.args.area in let image = g.D.Disk.content c.args.disk.now in let valid = c.requires.valid in
-    let few : config.pages ≤ 1024 = grind (arith, nat_tests, valid) in
+    let few : config.pages ≤ 65536 = grind (arith, nat_tests, valid) in
     let is : c.in_ok-memory.memory.bytes ≡ memory_of config area image = grind (arith, common_steps, honest) in
     read_stand config area c.in_ok-memory.memory c.clean.new.self image c.requires.area few c.in_ok-memory.ensures.dirty c.clean.ensures is
