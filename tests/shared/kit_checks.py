@@ -49,7 +49,7 @@ REFUSED_SOURCES = [
     ("#include <pthread.h>\nint one(void) { return pthread_setaffinity_np(pthread_self(), 0, 0); }",
      "pthread_setaffinity_np: who runs is decided outside"),
     ("#include <unistd.h>\nint late(void) { return alarm(1); }", "alarm: a guest has no signals from outside"),
-    ("char many[5000000]; char *all(void) { return many; }", "more than the 1,024 pages"),
+    ("char many[300000000]; char *all(void) { return many; }", "more than the 65,536 pages"),
 ]
 REFUSED_WORDS = [
     ([BUILD, "{c}", "-o", "{folder}/none/program.bin"], "there is no folder"),

@@ -44,6 +44,9 @@ fn watch_events(
     true
 }
 
+/// How many pages a program has at most whose races are looked for: for each there are 240 KiB.
+pub const PAGES_LIMIT: u32 = 8_192;
+
 /// How many words of memory there are, from address 0 on.
 fn words_of(machine: &Machine) -> usize
     ensures { result ≡ words_of machine.now.state }
@@ -52,11 +55,14 @@ fn words_of(machine: &Machine) -> usize
 }
 
 /// A detector for what a machine does from here on: what was done before is taken as ordered. It takes 14 MB, and 60 bytes for each of
-/// the guest's memory.
+/// the guest's memory. It fails where the allocator refuses them, or the program has more than [`PAGES_LIMIT`] pages.
 pub fn detector_for(alloc: Global, machine: &Machine) -> Result<Detector, AllocError>
     ensures { IfOk result (λ detector.
         detector ≡ fresh holders.HOLDERS (words_of machine.now.state)) }
 {
+    if machine.memory().pages() > PAGES_LIMIT {
+        return Err(AllocError);
+    }
     Detector::new(alloc, HOLDERS, words_of(machine))
 }
 
@@ -84,7 +90,8 @@ fn write_detected<W: Write>(
 ///
 /// # Errors
 ///
-/// `Damaged` where an event isn't accepted at its turn, `OutOfMemory` where a growth was refused, `Write` where the writer failed.
+/// `Damaged` where an event isn't accepted at its turn, `OutOfMemory` where a growth was refused or the program has more than
+/// [`PAGES_LIMIT`] pages, `Write` where the writer failed.
 pub fn write_races<W: Write>(
     alloc: Global,
     machine: &mut Machine,

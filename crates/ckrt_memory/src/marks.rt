@@ -72,15 +72,16 @@ fn cleaned(mark: u8, area: usize) -> u8
     if area == 0 { mark & !1 } else { mark & 1 }
 }
 
-/// Takes the marks for an area away.
-pub fn clean_marks(marks: &mut [u8; 65536], area: usize)
-    requires { area ≤ 1 }
+/// Takes the marks of the first pages for an area away.
+pub fn clean_marks(marks: &mut [u8; 65536], area: usize, pages: usize)
+    requires area { area ≤ 1 }
+    requires pages { pages ≤ 65536 }
     ensures length { length marks.new ≡ length marks.old }
-    ensures clean { (p : ℕ) → slice_index marks.new p / 2 ^ area % 2 ≡ 0 }
+    ensures clean { (p : ℕ) → p < pages → slice_index marks.new p / 2 ^ area % 2 ≡ 0 }
     ensures others { (b p : ℕ) → b ≤ 1 → b ≢ area
         → slice_index marks.new p / 2 ^ b % 2 ≡ slice_index marks.old p / 2 ^ b % 2 }
 {
-    for p in 0..PAGES_LIMIT {
+    for p in 0..pages {
         marks[p] = cleaned(marks[p], area);
     }
 }
