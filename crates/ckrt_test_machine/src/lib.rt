@@ -20,6 +20,8 @@ mod instructions;
 #[cfg(test)]
 mod keys;
 #[cfg(test)]
+mod large;
+#[cfg(test)]
 mod linked_waits;
 #[cfg(test)]
 mod marks;

@@ -46,7 +46,7 @@ class FormatCase:
 
 
 def random_geometry(chance):
-    pages = chance.choice([16] * 70 + [17] * 9 + [64, 15, 0, 1024, 1025, 1 << 20, (1 << 32) - 1])
+    pages = chance.choice([16] * 70 + [17] * 9 + [64, 15, 0, 1024, 1025, 65537, 1 << 20, (1 << 32) - 1])
     harts = chance.choice([1] * 40 + [2, 8, 0, 9, (1 << 32) - 1])
     journal = chance.choice([4096] * 70 + [8192, 1048576, 0, 4095, 4097, 2048, 1052672, (1 << 32) - 4096])
     return Geometry(pages, harts, journal)

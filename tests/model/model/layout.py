@@ -62,7 +62,7 @@ class Geometry:
 
     def is_possible(self):
         journal_fits = 4096 <= self.journal <= 1048576 and self.journal % 4096 == 0
-        return 16 <= self.pages <= 1024 and 1 <= self.harts <= 8 and journal_fits
+        return 16 <= self.pages <= 65536 and 1 <= self.harts <= 8 and journal_fits
 
 
 @dataclass(frozen=True)
