@@ -9,7 +9,7 @@ use std::process::Abort;
 /// Where words without a decoded entry begin: page 1,024.
 const BORDER: u32 = 0x40_0000;
 
-/// The first address behind all pages.
+/// The first address after all pages.
 const END: u32 = 0x1000_0000;
 
 /// addi x10, x10, N.
@@ -92,7 +92,7 @@ fn code_that_is_changed_is_run_as_it_is_then(rt: HostRuntime) {
 }
 
 #[test]
-fn behind_the_last_word_there_is_none(rt: HostRuntime) {
+fn after_the_last_word_there_is_none(rt: HostRuntime) {
     let mut memory = memory_with(&rt, END - 4, &[adding(1)]);
     let got = burst_from(&rt, &mut memory, END - 4, 5);
     expect_eq(&rt, got, (4, Outcome::Fault(Cause::FetchRange), 1));
