@@ -126,5 +126,9 @@ fn dirty_after<R: Abort + AllocGlobal>(rt: &R, addresses: &[u32]) -> Vec<u32> {
 fn a_store_makes_its_page_dirty_wherever_it_is(rt: HostRuntime) {
     let stores = [BORDER - 8192, BORDER - 4, BORDER, BORDER + 4096, END - 4];
     let found = dirty_after(&rt, &stores);
-    expect_eq(&rt, found.as_slice(), [1_022, 1_023, 1_024, 1_025, 65_535].as_slice());
+    expect_eq(
+        &rt,
+        found.as_slice(),
+        [1_022, 1_023, 1_024, 1_025, 65_535].as_slice(),
+    );
 }
