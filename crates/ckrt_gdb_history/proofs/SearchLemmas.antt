@@ -9,7 +9,8 @@ use Rattle.ckrt_gdb_history.specs.declared.position.Position.{Position}
 use Rattle.ckrt_gdb_history.specs.declared.stop.Stops.{Stops}
 use Rattle.ckrt_gdb_history.specs.declared.stop.Watch.{Watch}
 use Rattle.ckrt_gdb_history.specs.Positions.{History, IsBefore, IsGreatest, IsLastOnWay, IsLeast, IsPosition, IsUpTo, NoneBefore, NoneBehind, PassesNone, next_position, previous_position}
-use Rattle.ckrt_gdb_history.specs.Stops.{AreNone, HasChanged, IsStop, Runner, is_hit, is_of, is_wanted, runner_at, watched_at}
+use Rattle.ckrt_gdb_history.specs.Stops.{AreNone, HasChanged, HasMet, IsStop, Runner, has_accessed, is_hit, is_of, is_wanted, runner_at, watched_at}
+use Rattle.ckrt_gdb_history.proofs.AccessLemmas.{never_accessed}
 use Rattle.ckrt_gdb_history.proofs.AtLemmas.{inside}
 use Rattle.ckrt_gdb_history.proofs.OrderLemmas.{up_or_behind, fewer_ahead, next_of_previous, previous_first, steps_left, before_is_up_to, before_or_there, next_is_behind, next_up_to, none_between, not_both, previous_is_one, there, up_to_before, up_to_itself, up_to_up_to}
 
@@ -280,8 +281,10 @@ unwanted stops (Some r) points thread =
 pub none_stops : (stops : Stops) → stops.breakpoints.items ≡ [] → stops.watches.items ≡ [] → stops.thread ≡ None → stops.event_ends ≡ false → AreNone stops
 none_stops stops points watches thread ends h p (inl halts) =
     false≢true (sym (ap (λ b. b || (stops.event_ends && p.steps == 0)) (unwanted stops (runner_at p h.events h.start) points thread) ∙ ap (λ b. b && p.steps == 0) ends) ∙ halts)
-none_stops stops points watches thread ends h p (inr changed) =
+none_stops stops points watches thread ends h p (inr (inl changed)) =
     changed (ap (λ ws. watched_at ws (previous_position p h.events h.start) h.events h.start) watches ∙ sym (ap (λ ws. watched_at ws p h.events h.start) watches))
+none_stops stops points watches thread ends h p (inr (inr accessed)) =
+    false≢true (sym (ap (λ ws. has_accessed ws p h.events h.start) watches ∙ never_accessed [] refl p h.events h.start) ∙ accessed)
 
 -- BACKWARD, BY ONE STEP
 
