@@ -19,7 +19,7 @@ use Rattle.ckrt_gdb_history.specs.Stops.{IsStop, accesses_at, has_accessed, firs
 use Rattle.ckrt_gdb_history.specs.Search.{MayPass, are_there, first_meets, is_at, may_stop, meets_in, seen_at}
 use Rattle.ckrt_gdb_history.specs.declared.stop.Watch.{Watch}
 use Rattle.ckrt_gdb_history.proofs.AccessLemmas.{accessed_by}
-use Rattle.ckrt_gdb_history.proofs.OrderLemmas.{before_is_up_to, before_or_there, before_up_to, next_is_behind, next_is_one, next_of_previous, next_up_to, none_between, previous_is_one, previous_of_next, up_to_itself}
+use Rattle.ckrt_gdb_history.proofs.OrderLemmas.{before_is_up_to, before_or_there, before_up_to, next_is_behind, next_is_one, next_of_previous, next_up_to, none_between, not_both, previous_is_one, previous_of_next, up_to_itself}
 use Rattle.ckrt_gdb_history.proofs.SeenLemmas.{same_watched}
 
 no_hit : (t pc : ℕ) (bs : List Breakpoint) → is_at pc bs ≡ false → list_any (is_hit (t, pc)) bs ≡ false
@@ -150,6 +150,34 @@ accessed_next ws p es s is =
     later : (r : Position) → IsBefore p r → r.steps ≡ 0 → r.events ≡ 0 → ⊥
     later r (inl a) none first = omega (arith, a, first)
     later r (inr a) none first = (let less = a.1 in omega (arith, less, none))
+
+-- A STEP ALONE, where a watch stops for what it loaded or stored
+
+module _ (stops : Stops) (h y : History) (all : AllAccepted h.events h.start) (is : IsPosition h.position h.events h.start) (some : h.position.events < length h.events)
+    (stepped : y ≡ record h { position = next_position h.position h.events h.start }) where
+  pub step_history : y ≡ record h { position = y.position }
+  step_history = subst (λ (x : History). x ≡ record h { position = x.position }) (sym stepped) refl
+
+  pub step_passes : (last : Position) → IsUpTo (next_position h.position h.events h.start) last → PassesNone (IsStop stops h) h.position last y.position h
+  step_passes last within =
+      let there = next_position h.position h.events h.start in
+      subst (λ (x : History). PassesNone (IsStop stops h) h.position last x.position h) (sym stepped)
+      (record {
+        is_one = next_is_one h.position h.events h.start all is some;
+        behind = next_is_behind h.position h.events h.start;
+        within = within;
+        none_between = λ r one less before _. not_both r there before (next_up_to h.position h.events h.start r one less);
+      })
+
+  pub step_same : watched_at stops.watches.items (previous_position y.position y.events y.start) y.events y.start ≡ watched_at stops.watches.items h.position h.events h.start
+  step_same =
+      subst (λ (x : History). watched_at stops.watches.items (previous_position x.position x.events x.start) x.events x.start ≡ watched_at stops.watches.items h.position h.events h.start) (sym stepped)
+      (ap (λ x. watched_at stops.watches.items x h.events h.start) (previous_of_next h.position h.events h.start is))
+
+  pub step_accessed : accesses_at stops.watches.items h.position h.events h.start ≡ true → true ≡ has_accessed stops.watches.items y.position y.events y.start
+  step_accessed met =
+      subst (λ (x : History). true ≡ has_accessed stops.watches.items x.position x.events x.start) (sym stepped)
+      (sym (accessed_next stops.watches.items h.position h.events h.start is ∙ met))
 
 -- of another who stands elsewhere
 pub may_pass_there : (stops : Stops) (seen : List SeenByte) (h y : History) (p r : Position) → y ≡ record h { position = p } → MayPass stops seen y r → MayPass stops seen h r
