@@ -1,7 +1,7 @@
 -- A walk from one position to another, with a look at each position on the way.
-use Rattle.std.proofs.Common.{◌≡◌, ◌⊎◌, ◌+◌, min, ◌&&◌, ◌||◌, ◌==◌, ℕ, ◌<◌, Bool, true, false, not, List, [], length, Option, Some, None, refl, sym, ap, ◌∙◌, subst, inl, inr, arith}
+use Rattle.std.proofs.Common.{◌≡◌, ◌⊎◌, ◌+◌, min, ◌&&◌, ◌||◌, ◌==◌, ℕ, ◌<◌, Bool, true, false, List, [], length, Option, Some, None, refl, sym, ap, ◌∙◌, subst, inl, inr, arith}
 use Rattle.std.specs.List.{list_any}
-use Rattle.std.proofs.lemmas.Bool.{and_left, false≢true}
+use Rattle.std.proofs.lemmas.Bool.{false≢true}
 use Rattle.ckrt_events.specs.declared.event.Event.{Event}
 use Rattle.ckrt_machine.specs.Steps.{State}
 use Rattle.ckrt_machine.specs.Events.{AllAccepted}
@@ -9,8 +9,8 @@ use Rattle.ckrt_gdb_history.specs.declared.position.Position.{Position}
 use Rattle.ckrt_gdb_history.specs.declared.stop.Stops.{Stops}
 use Rattle.ckrt_gdb_history.specs.declared.stop.Watch.{Watch}
 use Rattle.ckrt_gdb_history.specs.Positions.{History, IsBefore, IsGreatest, IsLastOnWay, IsLeast, IsPosition, IsUpTo, NoneBefore, NoneBehind, PassesNone, next_position, previous_position}
-use Rattle.ckrt_gdb_history.specs.Stops.{AreNone, HasChanged, HasMet, IsStop, Runner, accesses_at, has_accessed, is_first, is_halt, is_hit, is_of, is_wanted, runner_at, watched_at}
-use Rattle.ckrt_gdb_history.proofs.AccessLemmas.{accessed_by, never_accessed}
+use Rattle.ckrt_gdb_history.specs.Stops.{AreNone, HasChanged, IsStop, Runner, has_accessed, is_halt, is_hit, is_of, is_wanted, runner_at, watched_at}
+use Rattle.ckrt_gdb_history.proofs.AccessLemmas.{never_accessed}
 use Rattle.ckrt_gdb_history.proofs.AtLemmas.{inside}
 use Rattle.ckrt_gdb_history.proofs.OrderLemmas.{up_or_behind, fewer_ahead, next_of_previous, previous_first, steps_left, before_is_up_to, before_or_there, next_is_behind, next_up_to, none_between, not_both, previous_is_one, there, up_to_before, up_to_itself, up_to_up_to}
 
@@ -210,35 +210,6 @@ module _ (h z y : History) (p : Position) (gone : z ≡ record h { position = p 
 
     pub there_again : x ≡ record h { position = p }
     there_again = made ∙ ap (λ (w : History). record w { position = x.position }) before_it ∙ ap (λ q. record h { position = q }) comes_there
-
--- no step led to the first position
-pub first_unmet : (ws : List Watch) (p : Position) (es : List Event) (s : State) → p.steps ≡ 0 → p.events ≡ 0 → HasMet ws p es s → ⊥
-first_unmet ws p es s none first (inl changed) = first_unchanged ws p es s none first changed
-first_unmet ws p es s none first (inr accessed) =
-    let here : not (is_first p) ≡ false = ap (λ n. not (n == 0 && p.steps == 0)) first ∙ ap (λ n. not (0 == 0 && n == 0)) none in
-    false≢true (sym (and_left (not (is_first p)) (accesses_at ws (previous_position p es s) es s) here) ∙ accessed)
-
--- what a look before the step tells
-module _ (ws : List Watch) (h y : History) (stepped : y ≡ back h) (some : h.position.steps ≡ 0 → h.position.events ≡ 0 → ⊥)
-    (b : Bool) (is : b ≡ accesses_at ws y.position y.events y.start) (was bytes : List ℕ)
-    (was_is : was ≡ watched_at ws y.position y.events y.start) (bytes_are : bytes ≡ watched_at ws h.position h.events h.start) where
-  was_before : was ≡ watched_at ws (previous_position h.position h.events h.start) h.events h.start
-  was_before = was_is ∙ ap (λ (x : History). watched_at ws x.position x.events x.start) stepped
-
-  accessed_before : has_accessed ws h.position h.events h.start ≡ b
-  accessed_before =
-      accessed_by ws h.position h.events h.start some
-      ∙ sym (ap (λ (x : History). accesses_at ws x.position x.events x.start) stepped) ∙ sym is
-
-  pub met_by_access : b ≡ true → HasMet ws h.position h.events h.start
-  met_by_access met = inr (accessed_before ∙ met)
-
-  pub met_by_change : (was ≡ bytes → ⊥) → HasMet ws h.position h.events h.start
-  met_by_change other = inl (λ same. other (was_before ∙ same ∙ sym bytes_are))
-
-  pub unmet_by : b ≡ false → was ≡ bytes → HasMet ws h.position h.events h.start → ⊥
-  unmet_by none same (inl changed) = changed (sym was_before ∙ same ∙ bytes_are)
-  unmet_by none same (inr accessed) = false≢true (sym none ∙ sym accessed_before ∙ accessed)
 
 -- BACK FROM HERE
 

@@ -65,7 +65,10 @@ impl History {
     {
         let has_accessed = self.go_past(stops, last);
         let has_changed = self.sees_others(stops, seen);
-        has_accessed || has_changed || self.is_halt(stops)
+        if has_accessed || has_changed {
+            return true;
+        }
+        self.is_halt(stops)
     }
 
     /// Goes forward to the least position with a reason to stop that is behind this one, and not behind `last`. `false` where there is
