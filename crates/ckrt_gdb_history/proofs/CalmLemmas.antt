@@ -13,10 +13,9 @@ use Rattle.ckrt_machine.specs.Events.{Machine}
 use Rattle.ckrt_look_steps.specs.Quiet.{IsCalm, or_call}
 use Rattle.ckrt_look_steps.proofs.QuietLemmas.{calm_after, met_at_calls, neither}
 use Rattle.ckrt_gdb_history.specs.declared.position.Position.{Position}
-use Rattle.ckrt_gdb_history.specs.declared.reason.Sought.{Sought}
 use Rattle.ckrt_gdb_history.specs.Engine.{IsAt, IsInto}
 use Rattle.ckrt_gdb_history.specs.Positions.{IsBefore, IsUpTo, into_first, into_run, run_in, state_at, state_before}
-use Rattle.ckrt_gdb_history.specs.Search.{IsOtherIn, IsPassed, first_meets, may_stop, meets_at, meets_in}
+use Rattle.ckrt_gdb_history.specs.Search.{IsOtherIn, IsPassed, first_meets, meets_at, meets_in}
 use Rattle.ckrt_gdb_history.specs.Stops.{first_runner, is_next_of, runner_at, runner_in, runner_of}
 use Rattle.ckrt_gdb_history.proofs.AtLemmas.{ahead, into_of}
 use Rattle.ckrt_gdb_history.proofs.IntoLemmas.{gone_on}
@@ -72,11 +71,8 @@ uncalled meets (e ∷ es) s unmet = uncalled_in meets (run_in e) s unmet
 
 -- AT POSITIONS
 
-module _ (sought : Sought) (t u : ℕ) (from : Position) (es : List Event) (s : State) (m : Machine) (e : Event) (at : IsAt m from es s) (is : slice_get es from.events ≡ Some e)
+module _ (meets : Meets) (t u : ℕ) (from : Position) (es : List Event) (s : State) (m : Machine) (e : Event) (at : IsAt m from es s) (is : slice_get es from.events ≡ Some e)
     (begun : 0 < from.steps) where
-  abbrev meets : Meets
-  meets = may_stop sought.breakpoints.now sought.seen.now
-
   here : drop from.events es ≡ e ∷ drop (suc from.events) es
   here = ahead from es s m e at is
 
@@ -105,7 +101,7 @@ module _ (sought : Sought) (t u : ℕ) (from : Position) (es : List Event) (s : 
       (other_next t u h (into_run k (run_in e) s0).state other.0 calm)
 
   pub passed : IsOtherIn t u (run_in e) m.state → (q r : Position) → q.events ≡ from.events → IsUpTo from r → IsBefore r q
-      → ((x : Position) → IsUpTo from x → IsBefore x q → meets_at (or_call meets) x es s ≡ false) → IsPassed sought (Some t) r es s
+      → ((x : Position) → IsUpTo from x → IsBefore x q → meets_at (or_call meets) x es s ≡ false) → IsPassed meets (Some t) r es s
   passed other q r same up before unmet =
       let there = within_event from q r same up before in
       let at_steps : (j : ℕ) → from.steps ≤ j → j < q.steps → meets_at (or_call meets) (record { events = from.events; steps = j }) es s ≡ false =

@@ -1,3 +1,4 @@
+pub mod AccessLemmas
 pub mod CutLemmas
 pub mod IntoLemmas
 pub mod WayLemmas

@@ -15,9 +15,11 @@ use Rattle.ckrt_gdb_history.specs.declared.reason.SeenByte.{SeenByte}
 use Rattle.ckrt_gdb_history.specs.declared.stop.Breakpoint.{Breakpoint}
 use Rattle.ckrt_gdb_history.specs.declared.stop.Stops.{Stops}
 use Rattle.ckrt_gdb_history.specs.Positions.{History, IsBefore, IsPosition, IsUpTo, PassesNone, next_position, previous_position, run_in, state_at}
-use Rattle.ckrt_gdb_history.specs.Stops.{IsStop, first_runner, is_any_hit, is_for, is_halt, is_hit, is_next_of, is_of, is_wanted, runner_in, runner_of, watched_at}
+use Rattle.ckrt_gdb_history.specs.Stops.{IsStop, accesses_at, has_accessed, first_runner, is_any_hit, is_for, is_halt, is_hit, is_next_of, is_of, is_wanted, runner_in, runner_of, watched_at}
 use Rattle.ckrt_gdb_history.specs.Search.{MayPass, are_there, first_meets, is_at, may_stop, meets_in, seen_at}
-use Rattle.ckrt_gdb_history.proofs.OrderLemmas.{before_is_up_to, before_or_there, before_up_to, next_is_behind, next_is_one, next_of_previous, next_up_to, none_between, previous_is_one, previous_of_next, up_to_itself}
+use Rattle.ckrt_gdb_history.specs.declared.stop.Watch.{Watch}
+use Rattle.ckrt_gdb_history.proofs.AccessLemmas.{accessed_by}
+use Rattle.ckrt_gdb_history.proofs.OrderLemmas.{before_is_up_to, before_or_there, before_up_to, next_is_behind, next_is_one, next_of_previous, next_up_to, none_between, not_both, previous_is_one, previous_of_next, up_to_itself}
 use Rattle.ckrt_gdb_history.proofs.SeenLemmas.{same_watched}
 
 no_hit : (t pc : ℕ) (bs : List Breakpoint) → is_at pc bs ≡ false → list_any (is_hit (t, pc)) bs ≡ false
@@ -82,6 +84,7 @@ module _ (stops : Stops) (seen : List SeenByte) (h : History) (p : Position) (ma
 module _ (stops : Stops) (seen : List SeenByte) (h : History) (p q : Position) (all : AllAccepted h.events h.start)
     (is : IsPosition p h.events h.start) (some : p.events < length h.events) (one : IsPosition q h.events h.start)
     (seen_is : seen ≡ seen_at stops.watches.items p h.events h.start)
+    (free : IsBefore (next_position p h.events h.start) q → accesses_at stops.watches.items p h.events h.start ≡ false)
     (up : IsUpTo (next_position p h.events h.start) q)
     (passed : (r : Position) → IsUpTo (next_position p h.events h.start) r → IsBefore r q → MayPass stops seen h r) where
   abbrev next : Position
@@ -90,6 +93,19 @@ module _ (stops : Stops) (seen : List SeenByte) (h : History) (p q : Position) (
   not_first : (r : Position) → IsBefore p r → r.steps ≡ 0 → r.events ≡ 0 → ⊥
   not_first r (inl a) none first = omega (arith, a, first)
   not_first r (inr a) none first = (let less = a.1 in omega (arith, less, none))
+
+  -- before the step to a position on the way, which is the first or is passed, no watch stops for what that loads or stores
+  unseen_up_to : (r : Position) → IsPosition r h.events h.start → IsBefore p r → IsUpTo r q → (next ≡ r → accesses_at stops.watches.items p h.events h.start ≡ false)
+      → accesses_at stops.watches.items (previous_position r h.events h.start) h.events h.start ≡ false
+  unseen_up_to r this less reach here_none =
+      let on = next_of_previous h.events h.start r all this (not_first r less) in
+      let back = previous_position r h.events h.start in
+      let here : IsPosition back h.events h.start = previous_is_one h.events h.start r all this in
+      let behind : IsBefore back r = subst (λ x. IsBefore back x) on (next_is_behind back h.events h.start) in
+      elim (before_or_there next r (next_up_to p h.events h.start r this less)) [
+        | inl more ↦ (passed back (none_between back h.events h.start next (next_is_one p h.events h.start all is some) (subst (λ x. IsBefore next x) (sym on) more)) (before_up_to back r q behind reach)).unseen
+        | inr same ↦ ap (λ x. accesses_at stops.watches.items (previous_position x h.events h.start) h.events h.start) (sym same) ∙ ap (λ x. accesses_at stops.watches.items x h.events h.start) (previous_of_next p h.events h.start is) ∙ here_none same
+      ]
 
   -- before the step to a position on the way there are the same bytes as at the beginning
   before : (r : Position) → IsPosition r h.events h.start → IsBefore p r → IsUpTo r q → watched_at stops.watches.items (previous_position r h.events h.start) h.events h.start ≡ watched_at stops.watches.items p h.events h.start
@@ -103,9 +119,14 @@ module _ (stops : Stops) (seen : List SeenByte) (h : History) (p q : Position) (
         | inr same ↦ ap (λ x. watched_at stops.watches.items (previous_position x h.events h.start) h.events h.start) (sym same) ∙ ap (λ x. watched_at stops.watches.items x h.events h.start) (previous_of_next p h.events h.start is)
       ]
 
+  -- and no watch stops for what the step loads or stores
+  unseen : (r : Position) → IsPosition r h.events h.start → IsBefore p r → IsBefore r q → accesses_at stops.watches.items (previous_position r h.events h.start) h.events h.start ≡ false
+  unseen r this less reach = unseen_up_to r this less (before_is_up_to r q reach) (λ same. free (subst (λ x. IsBefore x q) (sym same) reach))
+
   none : (r : Position) → IsPosition r h.events h.start → IsBefore p r → IsBefore r q → IsStop stops h r → ⊥
   none r this less more (inl halts) = no_halt stops seen h r (passed r (next_up_to p h.events h.start r this less) more) halts
-  none r this less more (inr changed) = changed (before r this less (before_is_up_to r q more) ∙ sym (still_seen stops seen h r (passed r (next_up_to p h.events h.start r this less) more) p seen_is))
+  none r this less more (inr (inr accessed)) = false≢true (sym (accessed_by stops.watches.items r h.events h.start (not_first r less) ∙ unseen r this less more) ∙ accessed)
+  none r this less more (inr (inl changed)) = changed (before r this less (before_is_up_to r q more) ∙ sym (still_seen stops seen h r (passed r (next_up_to p h.events h.start r this less) more) p seen_is))
 
   ahead : IsBefore p q
   ahead = before_up_to p next q (next_is_behind p h.events h.start) up
@@ -116,8 +137,50 @@ module _ (stops : Stops) (seen : List SeenByte) (h : History) (p q : Position) (
   pub same_before : watched_at stops.watches.items (previous_position q h.events h.start) h.events h.start ≡ watched_at stops.watches.items p h.events h.start
   same_before = before q one ahead (up_to_itself q)
 
+  -- the step that led there is the first, or no watch stopped for what that loaded or stored
+  pub accessed_there : accesses_at stops.watches.items p h.events h.start ≡ false → has_accessed stops.watches.items q h.events h.start ≡ false
+  accessed_there still =
+      accessed_by stops.watches.items q h.events h.start (not_first q ahead) ∙ unseen_up_to q one ahead (up_to_itself q) (λ same. still)
+
+-- the next position, if a watch stops for what the next step loads or stores
+pub accessed_next : (ws : List Watch) (p : Position) (es : List Event) (s : State) → IsPosition p es s → has_accessed ws (next_position p es s) es s ≡ accesses_at ws p es s
+accessed_next ws p es s is =
+    accessed_by ws (next_position p es s) es s (later (next_position p es s) (next_is_behind p es s)) ∙ ap (λ x. accesses_at ws x es s) (previous_of_next p es s is)
+  where
+    later : (r : Position) → IsBefore p r → r.steps ≡ 0 → r.events ≡ 0 → ⊥
+    later r (inl a) none first = omega (arith, a, first)
+    later r (inr a) none first = (let less = a.1 in omega (arith, less, none))
+
+-- A STEP ALONE, where a watch stops for what it loaded or stored
+
+module _ (stops : Stops) (h y : History) (all : AllAccepted h.events h.start) (is : IsPosition h.position h.events h.start) (some : h.position.events < length h.events)
+    (stepped : y ≡ record h { position = next_position h.position h.events h.start }) where
+  pub step_history : y ≡ record h { position = y.position }
+  step_history = subst (λ (x : History). x ≡ record h { position = x.position }) (sym stepped) refl
+
+  pub step_passes : (last : Position) → IsUpTo (next_position h.position h.events h.start) last → PassesNone (IsStop stops h) h.position last y.position h
+  step_passes last within =
+      let there = next_position h.position h.events h.start in
+      subst (λ (x : History). PassesNone (IsStop stops h) h.position last x.position h) (sym stepped)
+      (record {
+        is_one = next_is_one h.position h.events h.start all is some;
+        behind = next_is_behind h.position h.events h.start;
+        within = within;
+        none_between = λ r one less before _. not_both r there before (next_up_to h.position h.events h.start r one less);
+      })
+
+  pub step_same : watched_at stops.watches.items (previous_position y.position y.events y.start) y.events y.start ≡ watched_at stops.watches.items h.position h.events h.start
+  step_same =
+      subst (λ (x : History). watched_at stops.watches.items (previous_position x.position x.events x.start) x.events x.start ≡ watched_at stops.watches.items h.position h.events h.start) (sym stepped)
+      (ap (λ x. watched_at stops.watches.items x h.events h.start) (previous_of_next h.position h.events h.start is))
+
+  pub step_accessed : accesses_at stops.watches.items h.position h.events h.start ≡ true → true ≡ has_accessed stops.watches.items y.position y.events y.start
+  step_accessed met =
+      subst (λ (x : History). true ≡ has_accessed stops.watches.items x.position x.events x.start) (sym stepped)
+      (sym (accessed_next stops.watches.items h.position h.events h.start is ∙ met))
+
 -- of another who stands elsewhere
 pub may_pass_there : (stops : Stops) (seen : List SeenByte) (h y : History) (p r : Position) → y ≡ record h { position = p } → MayPass stops seen y r → MayPass stops seen h r
 may_pass_there stops seen h y p r is may =
     let there : MayPass stops seen (record h { position = p }) r = subst (λ (x : History). MayPass stops seen x r) is may in
-    record { inside = there.inside; others = there.others; unmet = there.unmet }
+    record { inside = there.inside; others = there.others; unmet = there.unmet; unseen = there.unseen }

@@ -1,5 +1,5 @@
 -- A walk from one position to another, with a look at each position on the way.
-use Rattle.std.proofs.Common.{◌≡◌, ◌⊎◌, ◌+◌, min, ◌&&◌, ◌||◌, ◌==◌, ℕ, ◌<◌, false, List, [], length, Option, Some, None, refl, sym, ap, ◌∙◌, subst, inl, inr, arith}
+use Rattle.std.proofs.Common.{◌≡◌, ◌⊎◌, ◌+◌, min, ◌&&◌, ◌||◌, ◌==◌, ℕ, ◌<◌, Bool, true, false, List, [], length, Option, Some, None, refl, sym, ap, ◌∙◌, subst, inl, inr, arith}
 use Rattle.std.specs.List.{list_any}
 use Rattle.std.proofs.lemmas.Bool.{false≢true}
 use Rattle.ckrt_events.specs.declared.event.Event.{Event}
@@ -9,7 +9,8 @@ use Rattle.ckrt_gdb_history.specs.declared.position.Position.{Position}
 use Rattle.ckrt_gdb_history.specs.declared.stop.Stops.{Stops}
 use Rattle.ckrt_gdb_history.specs.declared.stop.Watch.{Watch}
 use Rattle.ckrt_gdb_history.specs.Positions.{History, IsBefore, IsGreatest, IsLastOnWay, IsLeast, IsPosition, IsUpTo, NoneBefore, NoneBehind, PassesNone, next_position, previous_position}
-use Rattle.ckrt_gdb_history.specs.Stops.{AreNone, HasChanged, IsStop, Runner, is_hit, is_of, is_wanted, runner_at, watched_at}
+use Rattle.ckrt_gdb_history.specs.Stops.{AreNone, HasChanged, IsStop, Runner, has_accessed, is_halt, is_hit, is_of, is_wanted, runner_at, watched_at}
+use Rattle.ckrt_gdb_history.proofs.AccessLemmas.{never_accessed}
 use Rattle.ckrt_gdb_history.proofs.AtLemmas.{inside}
 use Rattle.ckrt_gdb_history.proofs.OrderLemmas.{up_or_behind, fewer_ahead, next_of_previous, previous_first, steps_left, before_is_up_to, before_or_there, next_is_behind, next_up_to, none_between, not_both, previous_is_one, there, up_to_before, up_to_itself, up_to_up_to}
 
@@ -137,6 +138,20 @@ module _ (stops : Stops) (z new : History) (seen bytes : List ℕ)
 
   pub unchanged : seen ≡ bytes → HasChanged stops.watches.items new.position new.events new.start → ⊥
   unchanged same other = other (same_before ∙ sym seen_is ∙ same ∙ bytes_are)
+
+-- WHY THERE IS A STOP
+
+module _ (stops : Stops) (new : History) where
+  -- a watch stops for what the last step loaded or stored
+  pub stops_by_access : (b : Bool) → b ≡ has_accessed stops.watches.items new.position new.events new.start → b ≡ true → IsStop stops new new.position
+  stops_by_access b is met = inr (inr (sym is ∙ met))
+
+  -- none does, and nothing changed
+  pub stops_by_halt : (b k : Bool) → b ≡ has_accessed stops.watches.items new.position new.events new.start → b ≡ false → (HasChanged stops.watches.items new.position new.events new.start → ⊥)
+      → k ≡ is_halt stops new.position new.events new.start → IsStop stops new new.position → k ≡ true
+  stops_by_halt b k is none same halt (inl halts) = halt ∙ halts
+  stops_by_halt b k is none same halt (inr (inl changed)) = absurd (same changed)
+  stops_by_halt b k is none same halt (inr (inr accessed)) = absurd (false≢true (sym none ∙ is ∙ accessed))
 
 -- FEWER STEPS ARE LEFT
 
@@ -280,8 +295,10 @@ unwanted stops (Some r) points thread =
 pub none_stops : (stops : Stops) → stops.breakpoints.items ≡ [] → stops.watches.items ≡ [] → stops.thread ≡ None → stops.event_ends ≡ false → AreNone stops
 none_stops stops points watches thread ends h p (inl halts) =
     false≢true (sym (ap (λ b. b || (stops.event_ends && p.steps == 0)) (unwanted stops (runner_at p h.events h.start) points thread) ∙ ap (λ b. b && p.steps == 0) ends) ∙ halts)
-none_stops stops points watches thread ends h p (inr changed) =
+none_stops stops points watches thread ends h p (inr (inl changed)) =
     changed (ap (λ ws. watched_at ws (previous_position p h.events h.start) h.events h.start) watches ∙ sym (ap (λ ws. watched_at ws p h.events h.start) watches))
+none_stops stops points watches thread ends h p (inr (inr accessed)) =
+    false≢true (sym (ap (λ ws. has_accessed ws p h.events h.start) watches ∙ never_accessed [] refl p h.events h.start) ∙ accessed)
 
 -- BACKWARD, BY ONE STEP
 

@@ -8,8 +8,10 @@ use Rattle.std.proofs.lemmas.Option.{slice_get-get_or, slice_get_past}
 use Rattle.ckrt_rv32i.specs.Memory.{byte_at}
 use Rattle.ckrt_gdb_history.specs.declared.reason.SeenByte.{SeenByte}
 use Rattle.ckrt_gdb_history.specs.declared.stop.Watch.{Watch}
-use Rattle.ckrt_gdb_history.specs.Stops.{bytes_at, bytes_from, bytes_in, watched, width, widths}
-use Rattle.ckrt_gdb_history.specs.Search.{are_there, byte_if, is_same, is_there, seen_byte, seen_from, seen_in, seen_under}
+use Rattle.ckrt_gdb_history.specs.declared.stop.WatchKind.{WatchKind}
+use Rattle.ckrt_gdb_history.specs.declared.stop.WatchKind.TheVariants.{Changes, Loads, Accesses}
+use Rattle.ckrt_gdb_history.specs.Stops.{bytes_at, bytes_for, bytes_from, bytes_in, watched, width, widths}
+use Rattle.ckrt_gdb_history.specs.Search.{are_there, byte_if, is_same, is_there, seen_byte, seen_for, seen_from, seen_in, seen_under}
 
 -- A RANGE
 
@@ -39,6 +41,12 @@ room_to_see first a last bytes old now least most room so =
     let both : length now ≡ length old + length (seen_from (a - first) first bytes) = ap length so ∙ length-append old (seen_from (a - first) first bytes) in
     omega (arith, least, most, room, few, both)
 
+-- under a watch there are as many as it has addresses, or none
+few_for : (k : WatchKind) (w : Watch) (bytes : List ℕ) → length (seen_for k w bytes) ≤ width w
+few_for Changes w bytes = (let all = seen_length (width w) w.first bytes in omega (arith, all))
+few_for Loads w bytes = omega arith
+few_for Accesses w bytes = omega arith
+
 -- A WATCH MORE
 
 module _ (ws : List Watch) (i : ℕ) (d : Watch) (bytes : List ℕ) (now new : List SeenByte) (less : i < length ws) (more : new ≡ now ++ seen_in bytes (get_or ws i d)) where
@@ -53,7 +61,7 @@ module _ (ws : List Watch) (i : ℕ) (d : Watch) (bytes : List ℕ) (now new : L
 
   pub less_room_to_see : length now + widths (drop i ws) ≤ 256 → length new + widths (drop (i + 1) ws) ≤ 256
   less_room_to_see room =
-      let few = seen_length (width (get_or ws i d)) (get_or ws i d).first bytes in
+      let few = few_for (get_or ws i d).kind (get_or ws i d) bytes in
       let both : length new ≡ length now + length (seen_in bytes (get_or ws i d)) = ap length more ∙ length-append now (seen_in bytes (get_or ws i d)) in
       let all : widths (drop i ws) ≡ width (get_or ws i d) + widths (drop (i + 1) ws) = ap widths ahead in
       omega (arith, room, few, both, all)
@@ -91,9 +99,14 @@ module _ (old new : List ℕ) where
       let both = and_parts (is_there new (seen_byte a old)) (are_there new (seen_from n (suc a) old)) there in
       ap (λ l. l ++ bytes_from n (suc a) new) (same_byte a both.0) ∙ ap (λ l. bytes_at a old ++ l) (same_from n (suc a) both.1)
 
+  same_for : (k : WatchKind) (w : Watch) → are_there new (seen_for k w old) ≡ true → bytes_for k w new ≡ bytes_for k w old
+  same_for Changes w there = same_from (width w) w.first there
+  same_for Loads w there = refl
+  same_for Accesses w there = refl
+
   -- the bytes under watches are the same where each byte seen there is
   pub same_watched : (ws : List Watch) → are_there new (seen_under ws old) ≡ true → watched ws new ≡ watched ws old
   same_watched [] there = refl
   same_watched (w ∷ ws) there =
       let both = and_parts (are_there new (seen_in old w)) (are_there new (seen_under ws old)) (sym (list_all-append (is_there new) (seen_in old w) (seen_under ws old)) ∙ there) in
-      ap (λ l. l ++ watched ws new) (same_from (width w) w.first both.0) ∙ ap (λ l. bytes_in old w ++ l) (same_watched ws both.1)
+      ap (λ l. l ++ watched ws new) (same_for w.kind w both.0) ∙ ap (λ l. bytes_in old w ++ l) (same_watched ws both.1)

@@ -5,7 +5,9 @@ use Rattle.std.proofs.lemmas.List.{append-nil}
 use Rattle.ckrt_rv32i.specs.Memory.{is_valid, byte_at}
 use Rattle.ckrt_rv32i.specs.declared.memory_bus.Size.TheVariants as size
 use Rattle.ckrt_gdb_history.specs.declared.stop.Watch.{Watch}
-use Rattle.ckrt_gdb_history.specs.Stops.{bytes_at, bytes_from, bytes_in, watched, width, widths}
+use Rattle.ckrt_gdb_history.specs.declared.stop.WatchKind.{WatchKind}
+use Rattle.ckrt_gdb_history.specs.declared.stop.WatchKind.TheVariants.{Changes, Loads, Accesses}
+use Rattle.ckrt_gdb_history.specs.Stops.{bytes_at, bytes_for, bytes_from, bytes_in, watched, width, widths}
 
 -- A BYTE
 
@@ -54,6 +56,12 @@ has_room first a last bytes old now least most room so =
     let both : length now ≡ length old + length (bytes_from (a - first) first bytes) = ap length so ∙ length-append old (bytes_from (a - first) first bytes) in
     omega (arith, least, most, room, few, both)
 
+-- under a watch there are as many as it has addresses, or none
+few_for : (k : WatchKind) (w : Watch) (bytes : List ℕ) → length (bytes_for k w bytes) ≤ width w
+few_for Changes w bytes = few_from (width w) w.first bytes
+few_for Loads w bytes = omega arith
+few_for Accesses w bytes = omega arith
+
 -- A WATCH MORE
 
 module _ (ws : List Watch) (i : ℕ) (d : Watch) (bytes now new : List ℕ) (less : i < length ws) (more : new ≡ now ++ bytes_in bytes (get_or ws i d)) where
@@ -68,7 +76,7 @@ module _ (ws : List Watch) (i : ℕ) (d : Watch) (bytes now new : List ℕ) (les
 
   pub less_room : length now + widths (drop i ws) ≤ 256 → length new + widths (drop (i + 1) ws) ≤ 256
   less_room room =
-      let few = few_from (width (get_or ws i d)) (get_or ws i d).first bytes in
+      let few = few_for (get_or ws i d).kind (get_or ws i d) bytes in
       let both : length new ≡ length now + length (bytes_in bytes (get_or ws i d)) = ap length more ∙ length-append now (bytes_in bytes (get_or ws i d)) in
       let all : widths (drop i ws) ≡ width (get_or ws i d) + widths (drop (i + 1) ws) = ap widths ahead in
       omega (arith, room, few, both, all)

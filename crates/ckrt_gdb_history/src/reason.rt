@@ -2,9 +2,10 @@
 ghost use Rattle.std.specs.Prelude.{◌≡◌, ◌≤◌, ◌<◌, ◌+◌, ◌++◌, ◌∷◌, [], length};
 ghost use Rattle.ckrt_gdb_history.specs.Stops.{width, widths};
 ghost use Rattle.ckrt_look_steps.specs.Quiet.{or_call};
-ghost use Rattle.ckrt_gdb_history.specs.Search.{are_there, byte_if, is_at, is_there, may_stop, seen_byte, seen_in, seen_under};
+ghost use Rattle.ckrt_gdb_history.specs.Search.{are_there, byte_if, is_at, is_there, may_stop, or_access, seen_byte, seen_from, seen_in, seen_under};
 
-use crate::stop::{Breakpoint, Watch};
+use crate::accessing::Accessing;
+use crate::stop::{Breakpoint, Watch, WatchKind};
 use arrayvec::ArrayVec;
 use ckrt_look_steps::AtCalls;
 use ckrt_memory::StopReason;
@@ -19,7 +20,7 @@ pub struct SeenByte {
     pub byte: Option<u8>,
 }
 
-/// The bytes that were seen under all watches.
+/// The bytes that were seen under all watches of changes.
 pub type SeenBytes = ArrayVec<SeenByte, 256>;
 
 /// The byte at an address, where there is one.
@@ -71,16 +72,28 @@ fn see_byte(bytes: &[u8], address: u32, seen: &mut SeenBytes)
 }
 
 /// What is seen at the addresses of a watch goes behind what there is.
-fn see(bytes: &[u8], watch: &Watch, seen: &mut SeenBytes)
+fn see_range(bytes: &[u8], watch: &Watch, seen: &mut SeenBytes)
     requires { length seen.old.items + width watch.now ≤ 256 }
-    ensures { seen.new.items ≡ seen.old.items ++ seen_in bytes.now watch.now }
+    ensures { seen.new.items
+        ≡ seen.old.items ++ seen_from (width watch.now) watch.now.first bytes.now }
 {
     for address in u64::from(watch.first)..u64::from(watch.last) + 1 {
         see_byte(bytes, address as u32, seen);
     }
 }
 
-/// What is seen under all watches.
+/// What is seen under a watch of changes goes behind what there is.
+fn see(bytes: &[u8], watch: &Watch, seen: &mut SeenBytes)
+    requires { length seen.old.items + width watch.now ≤ 256 }
+    ensures { seen.new.items ≡ seen.old.items ++ seen_in bytes.now watch.now }
+{
+    match watch.kind {
+        WatchKind::Changes => see_range(bytes, watch, seen),
+        WatchKind::Loads | WatchKind::Accesses => {}
+    }
+}
+
+/// What is seen under all watches of changes.
 pub fn seen_under(bytes: &[u8], watches: &[Watch]) -> SeenBytes
     requires { widths watches.now ≤ 256 }
     ensures { result.items ≡ seen_under watches.now bytes.now }
@@ -114,22 +127,44 @@ impl<'a> StopReason for Sought<'a> {
     }
 }
 
-/// The same reason, and one before each call and at each gate: up to there a thread stays on its hart.
+/// The same reason, or a watch stops for what the instruction loads or stores.
 #[derive(Clone, Copy, Debug)]
-pub struct SoughtOrCall<'a> {
+pub struct SoughtOrAccess<'a> {
     pub sought: Sought<'a>,
+    pub accessing: Accessing<'a>,
 }
 
-impl<'a> StopReason for SoughtOrCall<'a> {
-    ghost meets = { λ s. or_call (may_stop s.sought.breakpoints.now s.sought.seen.now) };
+impl<'a> StopReason for SoughtOrAccess<'a> {
+    ghost meets = { λ s. or_access s.accessing.watches.now
+        (may_stop s.sought.breakpoints.now s.sought.seen.now) };
 
     #[inline]
     fn is_met(&self, pc: u32, file: &[u32; 33], bytes: &[u8]) -> bool {
-        AtCalls.is_met(pc, file, bytes) || self.sought.is_met(pc, file, bytes)
+        self.sought.is_met(pc, file, bytes) || self.accessing.is_met(pc, file, bytes)
     }
 
     #[inline]
     fn is_only_at_jumps(&self) -> bool {
-        self.sought.is_only_at_jumps()
+        false
+    }
+}
+
+/// A reason, and one before each call and at each gate: up to there a thread stays on its hart.
+#[derive(Clone, Copy, Debug)]
+pub struct OrCall<'a, R> {
+    pub reason: &'a R,
+}
+
+impl<'a, R: StopReason> StopReason for OrCall<'a, R> {
+    ghost meets = { λ s. or_call (R.meets s.reason.now) };
+
+    #[inline]
+    fn is_met(&self, pc: u32, file: &[u32; 33], bytes: &[u8]) -> bool {
+        AtCalls.is_met(pc, file, bytes) || self.reason.is_met(pc, file, bytes)
+    }
+
+    #[inline]
+    fn is_only_at_jumps(&self) -> bool {
+        self.reason.is_only_at_jumps()
     }
 }

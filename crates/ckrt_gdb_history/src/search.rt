@@ -1,15 +1,16 @@
 //! Searches for a reason to stop, forward and backward.
 ghost use Rattle.std.specs.Prelude.{◌≡◌, ◌≤◌, ◌↔◌, IsTrue, true, false};
 ghost use Rattle.ckrt_gdb_history.specs.Positions.{IsBefore, IsGreatest, IsLastOnWay, IsLeast, IsPosition, IsUpTo, NoneBefore, NoneBehind, PassesNone, previous_position};
-ghost use Rattle.ckrt_gdb_history.specs.Stops.{IsStop, watched_at, widths};
+ghost use Rattle.ckrt_gdb_history.specs.Stops.{IsStop, has_accessed, watched_at, widths};
 
 use crate::history::History;
 use crate::position::Position;
 use crate::stop::{Stops, Watched};
 
 impl History {
-    /// Goes behind the next step, and on to the first position at which there may be a reason to stop, or to `last`.
-    fn go_past(&mut self, stops: &Stops, last: Position)
+    /// Goes behind the next step, and on to the first position at which there may be a reason to stop, or to `last`. Says whether a watch
+    /// stops there for what the step before it loaded or stored.
+    fn go_past(&mut self, stops: &Stops, last: Position) -> bool
         requires width { widths stops.now.watches.items ≤ 256 }
         requires last { IsPosition last self.old.events self.old.start }
         requires more { IsBefore self.old.position last }
@@ -20,11 +21,31 @@ impl History {
             (previous_position self.new.position self.new.events self.new.start) self.new.events
             self.new.start
             ≡ watched_at stops.now.watches.items self.old.position self.old.events self.old.start }
+        ensures accessed { result ≡ has_accessed stops.now.watches.items self.new.position
+            self.new.events self.new.start }
     {
         self.known();
         let seen = self.seen(stops);
+        let accesses = self.accesses(stops);
         self.step_forward();
+        if accesses {
+            return true;
+        }
         self.pass(stops, seen.as_slice(), last);
+        false
+    }
+
+    /// Whether the bytes under the watches of changes aren't those that were seen. Those are seen from now on.
+    fn sees_others(&self, stops: &Stops, seen: &mut Watched) -> bool
+        requires { widths stops.now.watches.items ≤ 256 }
+        ensures seen { seen.new.items
+            ≡ watched_at stops.now.watches.items self.now.position self.now.events self.now.start }
+        ensures others { IsTrue result ↔ (seen.old.items ≡ seen.new.items → ⊥) }
+    {
+        let bytes = self.watched(stops);
+        let same = bytes.as_slice() == seen.as_slice();
+        *seen = bytes;
+        !same
     }
 
     /// Goes behind the next step, and on past positions without a reason to stop, to `last` at most; says whether there is one where it
@@ -42,14 +63,12 @@ impl History {
             ≡ watched_at stops.now.watches.items self.new.position self.new.events self.new.start }
         ensures stop { IsTrue result ↔ IsStop stops.now self.new self.new.position }
     {
-        self.go_past(stops, last);
-        if stops.watches.is_empty() {
-            return self.is_halt(stops);
+        let has_accessed = self.go_past(stops, last);
+        let has_changed = self.sees_others(stops, seen);
+        if has_accessed || has_changed {
+            return true;
         }
-        let bytes = self.watched(stops);
-        let same = bytes.as_slice() == seen.as_slice();
-        *seen = bytes;
-        !same || self.is_halt(stops)
+        self.is_halt(stops)
     }
 
     /// Goes forward to the least position with a reason to stop that is behind this one, and not behind `last`. `false` where there is

@@ -1,8 +1,11 @@
 //! Where a walk through a history stops.
 ghost use Rattle.std.specs.Prelude.{◌≡◌, ◌<◌, ◌≤◌, ◌+◌, ◌++◌, [], length, false, IsTrue, Some, None};
-ghost use Rattle.ckrt_gdb_history.specs.Stops.{AreNone, bytes_at, bytes_in, is_any_hit, is_hit, is_wanted, runner_in, watched, width, widths};
+ghost use Rattle.std.specs.List.{list_any};
+ghost use Rattle.ckrt_gdb_history.specs.Stops.{AreNone, accesses_for, accesses_in, bytes_at, bytes_from, bytes_in, is_any_hit, is_hit, is_wanted, runner_in, sees, watched, width, widths};
 ghost use Rattle.ckrt_gdb_history.specs.Positions.{run_in};
+ghost use Rattle.ckrt_machine.specs.Steps.{hart_of};
 
+use crate::accessing::Accessing;
 use crate::replay::run_in;
 use arrayvec::ArrayVec;
 use ckrt_events::Event;
@@ -16,7 +19,7 @@ pub const WATCH_LIMIT: usize = 256;
 /// How many breakpoints there are at most.
 pub const BREAKPOINT_LIMIT: usize = 64;
 
-/// The bytes under all watches.
+/// The bytes under all watches of changes.
 pub type Watched = ArrayVec<u8, 256>;
 
 /// Stops before a step whose instruction is at an address.
@@ -27,9 +30,36 @@ pub struct Breakpoint {
     pub thread: Option<u8>,
 }
 
-/// Stops behind a step that changes a byte at one of these addresses.
+/// Which steps a watch stops for.
+#[derive(Clone, Copy, Debug, Default, PartialEq, Eq)]
+pub enum WatchKind {
+    /// Those that change a byte.
+    #[default]
+    Changes,
+    /// Those that load one.
+    Loads,
+    /// Those that load one or store to one, whatever they change.
+    Accesses,
+}
+
+impl WatchKind {
+    /// Whether a watch of the kind stops for loads, or for stores, whatever they change.
+    #[inline]
+    pub(crate) fn sees(self, is_store: bool) -> bool
+        ensures { result ≡ sees is_store self }
+    {
+        match self {
+            WatchKind::Changes => false,
+            WatchKind::Loads => !is_store,
+            WatchKind::Accesses => true,
+        }
+    }
+}
+
+/// Stops after a step that does so with a byte at one of these addresses.
 #[derive(Clone, Copy, Debug, Default, PartialEq, Eq)]
 pub struct Watch {
+    pub kind: WatchKind,
     pub first: u32,
     /// The last address, `first` or above.
     pub last: u32,
@@ -74,6 +104,13 @@ impl Stops {
             && !self.event_ends
     }
 
+    /// Whether one of the watches is of loads, or of loads and stores.
+    pub fn sees_loads(&self) -> bool
+        ensures { result ≡ list_any (λ w. sees false w.kind) self.now.watches.items }
+    {
+        see_loads(self.watches.as_slice())
+    }
+
     /// How many addresses the watches have.
     pub fn width(&self) -> u64
         ensures { result ≡ widths self.now.watches.items }
@@ -84,6 +121,13 @@ impl Stops {
         }
         sum
     }
+}
+
+/// Whether one of the watches is of loads, or of loads and stores.
+fn see_loads(watches: &[Watch]) -> bool
+    ensures { result ≡ list_any (λ w. sees false w.kind) watches.now }
+{
+    watches.iter().any(|watch| watch.kind.sees(false))
 }
 
 /// How many addresses the watch has.
@@ -106,16 +150,28 @@ fn append_byte(memory: &Memory, address: u32, bytes: &mut Watched)
 }
 
 /// The bytes at the addresses of a watch go behind those that there are.
-fn append_bytes(memory: &Memory, watch: &Watch, bytes: &mut Watched)
+fn append_range(memory: &Memory, watch: &Watch, bytes: &mut Watched)
     requires { length bytes.old.items + width watch.now ≤ 256 }
-    ensures { bytes.new.items ≡ bytes.old.items ++ bytes_in memory.now.bytes watch.now }
+    ensures { bytes.new.items
+        ≡ bytes.old.items ++ bytes_from (width watch.now) watch.now.first memory.now.bytes }
 {
     for address in u64::from(watch.first)..u64::from(watch.last) + 1 {
         append_byte(memory, address as u32, bytes);
     }
 }
 
-/// The bytes under all watches.
+/// The bytes under a watch of changes go behind those that there are.
+fn append_bytes(memory: &Memory, watch: &Watch, bytes: &mut Watched)
+    requires { length bytes.old.items + width watch.now ≤ 256 }
+    ensures { bytes.new.items ≡ bytes.old.items ++ bytes_in memory.now.bytes watch.now }
+{
+    match watch.kind {
+        WatchKind::Changes => append_range(memory, watch, bytes),
+        WatchKind::Loads | WatchKind::Accesses => {}
+    }
+}
+
+/// The bytes under all watches of changes.
 pub fn watched(memory: &Memory, watches: &[Watch]) -> Watched
     requires { widths watches.now ≤ 256 }
     ensures { result.items ≡ watched watches.now memory.now.bytes }
@@ -159,4 +215,30 @@ pub fn runner(machine: &Machine, event: &Event) -> Option<(u8, u32)>
     let thread = tables.threads.on_hart(usize::from(hart))?;
     let live = tables.threads.live(thread);
     Some((thread, live.regs.pc()))
+}
+
+/// Whether a watch stops for what the thread on a hart loads or stores by its next step.
+fn accesses_on(machine: &Machine, hart: u8, watches: &[Watch]) -> bool
+    ensures { result ≡ accesses_for watches.now (hart_of machine.now.state.tables hart)
+        machine.now.state }
+{
+    let threads = &machine.tables().threads;
+    let Some(thread) = threads.on_hart(usize::from(hart)) else {
+        return false;
+    };
+    let live = threads.live(thread);
+    if live.cancellation.is_immediate() {
+        return false;
+    }
+    machine.memory().meets(&live.regs, &Accessing { watches })
+}
+
+/// Whether a watch stops for what the next step loads or stores, where the event is a run.
+pub fn accesses_by(machine: &Machine, event: &Event, watches: &[Watch]) -> bool
+    ensures { result ≡ accesses_in watches.now (run_in event.now) machine.now.state }
+{
+    match run_in(event) {
+        Some((hart, _)) => accesses_on(machine, hart, watches),
+        None => false,
+    }
 }

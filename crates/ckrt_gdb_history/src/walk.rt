@@ -4,11 +4,14 @@ ghost use Rattle.ckrt_machine.specs.Steps.{State};
 ghost use Rattle.ckrt_events.specs.declared.event.Event.{Event};
 ghost use Rattle.ckrt_gdb_history.specs.Positions.{IsBefore, IsPosition, IsUpTo, next_position, previous_position, run_in};
 ghost use Rattle.ckrt_gdb_history.specs.Engine.{IsAt, steps_through};
-ghost use Rattle.ckrt_gdb_history.specs.Search.{IsOtherIn, IsPassed, meets_at};
+ghost use Rattle.ckrt_gdb_history.specs.Search.{IsOtherIn, IsPassed, may_stop, meets_at};
+ghost use Rattle.ckrt_gdb_history.specs.Stops.{accesses_at};
 
+use crate::accessing::Accessing;
 use crate::position::Position;
-use crate::reason::{Sought, SoughtOrCall};
+use crate::reason::{OrCall, Sought, SoughtOrAccess};
 use crate::replay::{finish, go_into, go_into_until, run_in};
+use crate::stop::Stops;
 use ckrt_events::Event;
 use ckrt_look_steps::calm_on;
 use ckrt_machine::Machine;
@@ -108,12 +111,12 @@ fn other_on(machine: &Machine, event: &Event, thread: ThreadId) -> Option<Thread
 
 /// The machine, which is inside a run, goes on past steps that aren't this thread's, as `go_on_until` does, and no further than to a call.
 /// It stays where the next step may be the thread's.
-fn go_past_others(
+fn go_past_others<R: StopReason>(
     machine: &mut Machine,
     events: &[Event],
     from: Position,
     to: Position,
-    sought: &Sought<'_>,
+    reason: &R,
     thread: ThreadId,
 ) -> Position
     requires at { (s : State) × IsAt machine.old from events.now s
@@ -126,24 +129,24 @@ fn go_past_others(
         → IsAt machine.new result events.now s }
     ensures unmet { (s : State) → IsAt machine.old from events.now s
         → (r : Position) → IsUpTo from r → IsBefore r result
-        → IsPassed sought.now (Some thread) r events.now s }
+        → IsPassed (R.meets reason.now) (Some thread) r events.now s }
     ensures size { length machine.new.state.bytes ≡ length machine.old.state.bytes }
 {
     let Some(_other) = other_on(machine, &events[from.events], thread) else {
         return from;
     };
-    let reason = SoughtOrCall { sought: *sought };
+    let reason = OrCall { reason };
     go_on_until(machine, events, from, to, &reason)
 }
 
 /// The machine, which is inside a run, goes on past positions at which the reason isn't met and the next step isn't this thread's, and to
 /// `to` at most. It may stay before one of them.
-pub fn go_past(
+pub fn go_past<R: StopReason>(
     machine: &mut Machine,
     events: &[Event],
     from: Position,
     to: Position,
-    sought: &Sought<'_>,
+    reason: &R,
     thread: Option<ThreadId>,
 ) -> Position
     requires at { (s : State) × IsAt machine.old from events.now s
@@ -156,13 +159,51 @@ pub fn go_past(
         → IsAt machine.new result events.now s }
     ensures unmet { (s : State) → IsAt machine.old from events.now s
         → (r : Position) → IsUpTo from r → IsBefore r result
-        → IsPassed sought.now thread r events.now s }
+        → IsPassed (R.meets reason.now) thread r events.now s }
     ensures size { length machine.new.state.bytes ≡ length machine.old.state.bytes }
 {
     match thread {
-        Some(thread) => go_past_others(machine, events, from, to, sought, thread),
-        None => go_on_until(machine, events, from, to, sought),
+        Some(thread) => go_past_others(machine, events, from, to, reason, thread),
+        None => go_on_until(machine, events, from, to, reason),
     }
+}
+
+/// The same, up to a reason that a search looks for, and past no position at which a watch stops for what the next step loads or stores.
+pub fn go_past_all(
+    machine: &mut Machine,
+    events: &[Event],
+    from: Position,
+    to: Position,
+    sought: &Sought<'_>,
+    stops: &Stops,
+) -> Position
+    requires at { (s : State) × IsAt machine.old from events.now s
+        × IsPosition to events.now s }
+    requires event { from.events ≡ to.events }
+    requires steps { (0 < from.steps) × (from.steps ≤ to.steps) }
+    ensures within { (result.events ≡ from.events) × (from.steps ≤ result.steps)
+        × (result.steps ≤ to.steps) }
+    ensures at { (s : State) → IsAt machine.old from events.now s → IsPosition to events.now s
+        → IsAt machine.new result events.now s }
+    ensures unmet { (s : State) → IsAt machine.old from events.now s
+        → (r : Position) → IsUpTo from r → IsBefore r result
+        → IsPassed (may_stop sought.now.breakpoints.now sought.now.seen.now) stops.now.thread r
+        events.now s }
+    ensures unseen { (s : State) → IsAt machine.old from events.now s
+        → (r : Position) → IsUpTo from r → IsBefore r result
+        → accesses_at stops.now.watches.items r events.now s ≡ false }
+    ensures size { length machine.new.state.bytes ≡ length machine.old.state.bytes }
+{
+    if !stops.sees_loads() {
+        return go_past(machine, events, from, to, sought, stops.thread);
+    }
+    let reason = SoughtOrAccess {
+        sought: *sought,
+        accessing: Accessing {
+            watches: stops.watches.as_slice(),
+        },
+    };
+    go_past(machine, events, from, to, &reason, stops.thread)
 }
 
 /// The position behind the next step, where so many steps are made of each event.

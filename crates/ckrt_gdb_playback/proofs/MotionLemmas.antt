@@ -5,21 +5,21 @@ use Rattle.ckrt_gdb_history.specs.declared.stop.Stops.{Stops}
 use Rattle.ckrt_gdb_history.specs.Positions.{History, IsLeast, next_position, previous_position}
 use Rattle.ckrt_gdb_history.specs.Stops.{IsStop}
 use Rattle.ckrt_gdb_playback.specs.declared.motion.Found.{Found}
-use Rattle.ckrt_gdb_playback.specs.declared.motion.Found.TheVariants.{Written, Halted, Stepped, Nothing}
+use Rattle.ckrt_gdb_playback.specs.declared.motion.Found.TheVariants.{Met, Halted, Stepped, Nothing}
 use Rattle.ckrt_gdb_playback.specs.declared.going.Way.{Way}
 use Rattle.ckrt_gdb_playback.specs.declared.going.Way.TheVariants.{On, StepOn, Back, StepBack}
 use Rattle.ckrt_gdb_playback.specs.declared.view.Stopped.{Stopped}
 use Rattle.ckrt_gdb_playback.specs.declared.limits.Bounds.{Bounds}
 use Rattle.ckrt_gdb_playback.specs.Limits.{IsEndBack, IsEndOn}
 use Rattle.ckrt_gdb_playback.specs.Told.{has_moved, told, told_back, told_on}
-use Rattle.ckrt_gdb_playback.specs.Motions.{HasHalted, HasStepped, HasWritten, IsStepping, Moved, SteppedOn, WentBack, WentOn, WentToStep, and_steps_of, at}
+use Rattle.ckrt_gdb_playback.specs.Motions.{HasHalted, HasStepped, MeetsWatch, IsStepping, Moved, SteppedOn, WentBack, WentOn, WentToStep, and_steps_of, at}
 
 -- from the least position with a reason to stop
 went_at : (stops : Stops) (last : Position) (h : History) (p : Position) (z : History) (found : Found) → IsLeast (IsStop stops h) h.position last p h
     → HasHalted stops (at p h) z found → WentOn stops last h z found
-went_at stops last h p z (Written address) least halted = (p, least, halted.0, halted.1)
+went_at stops last h p z (Met watch) least halted = (p, least, halted.0, halted.1)
 went_at stops last h p z Halted least halted =
-    subst (λ (y : History). (y ≡ at y.position h) × IsLeast (IsStop stops h) h.position last y.position h × (HasWritten stops h y.position → ⊥))
+    subst (λ (y : History). (y ≡ at y.position h) × IsLeast (IsStop stops h) h.position last y.position h × (MeetsWatch stops h y.position → ⊥))
     (sym halted.1) (refl, least, halted.0)
 went_at stops last h p z Stepped least halted = absurd halted
 went_at stops last h p z Nothing least halted = absurd halted
@@ -80,7 +80,7 @@ pub is_run : (z h : History) → z ≡ h → z ≡ at z.position h
 is_run z h same = subst (λ (y : History). y ≡ at y.position h) (sym same) refl
 
 went_on_run : (stops : Stops) (last : Position) (h z : History) (found : Found) → WentOn stops last h z found → z ≡ at z.position h
-went_on_run stops last h z (Written address) went = of_run (previous_position went.0 h.events h.start) z h h refl went.3
+went_on_run stops last h z (Met watch) went = of_run (previous_position went.0 h.events h.start) z h h refl went.3
 went_on_run stops last h z Halted went = went.0
 went_on_run stops last h z Stepped went = absurd went
 went_on_run stops last h z Nothing went = of_run last z h h refl went.0
@@ -90,7 +90,7 @@ to_step_run t stops last h z found (inl here) = is_run z h here.1
 to_step_run t stops last h z found (inr went) = went_on_run (and_steps_of t stops) last h z found went.1
 
 stepped_run : (stops : Stops) (q : Position) (h before z : History) (found : Found) → before ≡ at before.position h → HasStepped stops (at q before) z found → z ≡ at z.position h
-stepped_run stops q h before z (Written address) there done = of_run (previous_position q before.events before.start) z before h there done.1
+stepped_run stops q h before z (Met watch) there done = of_run (previous_position q before.events before.start) z before h there done.1
 stepped_run stops q h before z Stepped there done = of_run q z before h there done.1
 stepped_run stops q h before z Halted there done = absurd done
 stepped_run stops q h before z Nothing there done = absurd done
@@ -104,8 +104,8 @@ step_on_run t stops last h before z halt found there (inr off) =
     subst (λ (y : History). y ≡ at y.position h) (sym off.1) (to_step_run t stops last h before halt there)
 
 went_back_run : (stops : Stops) (first : Position) (h z : History) (found : Found) → WentBack stops first h z found → z ≡ at z.position h
-went_back_run stops first h z (Written address) (inl here) = is_run z h here.0
-went_back_run stops first h z (Written address) (inr went) = went.0
+went_back_run stops first h z (Met watch) (inl here) = is_run z h here.0
+went_back_run stops first h z (Met watch) (inr went) = went.0
 went_back_run stops first h z Halted went = went.0
 went_back_run stops first h z Stepped went = absurd went
 went_back_run stops first h z Nothing went = of_run first z h h refl went.0

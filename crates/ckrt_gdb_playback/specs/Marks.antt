@@ -3,12 +3,14 @@ use Rattle.std.specs.Prelude.{◌≡◌, ℕ, ◌+◌, ◌-◌, ◌++◌, ◌==�
 use Rattle.std.specs.List.{filter, list_any}
 use Rattle.ckrt_gdb_history.specs.declared.stop.Breakpoint.{Breakpoint}
 use Rattle.ckrt_gdb_history.specs.declared.stop.Watch.{Watch}
+use Rattle.ckrt_gdb_history.specs.declared.stop.WatchKind.{WatchKind}
+use Rattle.ckrt_gdb_history.specs.declared.stop.WatchKind.TheVariants as kind
 use Rattle.ckrt_gdb_history.specs.declared.stop.Stops.{Stops}
 use Rattle.ckrt_gdb_history.specs.Stops.{widths}
 use Rattle.ckrt_gdb_packets.specs.declared.request.Mark.{Mark}
-use Rattle.ckrt_gdb_packets.specs.declared.request.Mark.TheVariants.{Execution, Writes}
+use Rattle.ckrt_gdb_packets.specs.declared.request.Mark.TheVariants.{Execution, Writes, Reads, Accesses}
 use Rattle.ckrt_gdb_playback.specs.declared.marks.Marked.{Marked}
-use Rattle.ckrt_gdb_playback.specs.declared.marks.Marked.TheVariants.{Done, Full, Unsupported}
+use Rattle.ckrt_gdb_playback.specs.declared.marks.Marked.TheVariants.{Done, Full}
 
 -- BREAKPOINTS of any thread, at most 64, each once
 
@@ -34,11 +36,18 @@ without_breakpoint a bs = filter (λ b. not (is_breakpoint a b)) bs
 
 -- WATCHES of so many bytes, at least one; at most 16, each once, with at most 256 addresses in all
 
-abbrev pub watch_of : (first size : ℕ) → Watch
-watch_of first size = record { first = first; last = min (first + (size - 1)) 4294967295 }
+abbrev pub watch_of : WatchKind → (first size : ℕ) → Watch
+watch_of k first size =
+    record { kind = k; first = first; last = min (first + (size - 1)) 4294967295 }
+
+abbrev pub is_kind : WatchKind → WatchKind → Bool
+is_kind kind.Changes kind.Changes = true
+is_kind kind.Loads kind.Loads = true
+is_kind kind.Accesses kind.Accesses = true
+is_kind _ _ = false
 
 abbrev pub is_watch : Watch → Watch → Bool
-is_watch w there = there.first == w.first && there.last == w.last
+is_watch w there = is_kind w.kind there.kind && (there.first == w.first && there.last == w.last)
 
 abbrev pub has_watch : Watch → List Watch → Bool
 has_watch w ws = list_any (is_watch w) ws
@@ -55,20 +64,19 @@ with_watch w ws = if has_watch w ws || not (has_room w ws) then ws else ws ++ w 
 abbrev pub without_watch : Watch → List Watch → List Watch
 without_watch w ws = filter (λ there. not (is_watch w there)) ws
 
--- WHAT BECOMES OF A MARK. Loads aren't seen.
+-- WHAT BECOMES OF A MARK
 
 abbrev pub by_room : Bool → Marked
 by_room is_taken = if is_taken then Done else Full
 
 abbrev pub inserted : Mark → Stops → Marked
 inserted (Execution a) stops = by_room (takes_breakpoint a stops.breakpoints.items)
-inserted (Writes first size) stops = by_room (takes_watch (watch_of first size) stops.watches.items)
-inserted _ stops = Unsupported
-
-abbrev pub removed : Mark → Marked
-removed (Execution a) = Done
-removed (Writes first size) = Done
-removed _ = Unsupported
+inserted (Writes first size) stops =
+    by_room (takes_watch (watch_of kind.Changes first size) stops.watches.items)
+inserted (Reads first size) stops =
+    by_room (takes_watch (watch_of kind.Loads first size) stops.watches.items)
+inserted (Accesses first size) stops =
+    by_room (takes_watch (watch_of kind.Accesses first size) stops.watches.items)
 
 -- the stops afterwards are the same but for the one
 pub record AreStops (breakpoints : List Breakpoint) (watches : List Watch) (old new : Stops) : Type 0 where
@@ -84,16 +92,23 @@ pub record IsWithoutStops (stops : Stops) : Type 0 where
   pub thread : stops.thread ≡ None
   pub event_ends : stops.event_ends ≡ false
 
+abbrev pub HasWatch : Watch → (old new : Stops) → Type 0
+HasWatch w old new = AreStops old.breakpoints.items (with_watch w old.watches.items) old new
+
 abbrev pub HasInserted : Mark → (old new : Stops) → Type 0
 HasInserted (Execution a) old new =
     AreStops (with_breakpoint a old.breakpoints.items) old.watches.items old new
-HasInserted (Writes first size) old new =
-    AreStops old.breakpoints.items (with_watch (watch_of first size) old.watches.items) old new
-HasInserted _ old new = new ≡ old
+HasInserted (Writes first size) old new = HasWatch (watch_of kind.Changes first size) old new
+HasInserted (Reads first size) old new = HasWatch (watch_of kind.Loads first size) old new
+HasInserted (Accesses first size) old new = HasWatch (watch_of kind.Accesses first size) old new
+
+abbrev pub HasNoWatch : Watch → (old new : Stops) → Type 0
+HasNoWatch w old new =
+    AreStops old.breakpoints.items (without_watch w old.watches.items) old new
 
 abbrev pub HasRemoved : Mark → (old new : Stops) → Type 0
 HasRemoved (Execution a) old new =
     AreStops (without_breakpoint a old.breakpoints.items) old.watches.items old new
-HasRemoved (Writes first size) old new =
-    AreStops old.breakpoints.items (without_watch (watch_of first size) old.watches.items) old new
-HasRemoved _ old new = new ≡ old
+HasRemoved (Writes first size) old new = HasNoWatch (watch_of kind.Changes first size) old new
+HasRemoved (Reads first size) old new = HasNoWatch (watch_of kind.Loads first size) old new
+HasRemoved (Accesses first size) old new = HasNoWatch (watch_of kind.Accesses first size) old new

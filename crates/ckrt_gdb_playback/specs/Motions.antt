@@ -1,4 +1,4 @@
--- Where a motion stops. gdb wants a watch told before the step that changes a byte where it goes on, and behind that step where it goes
+-- Where a motion stops. gdb wants a watch told before the step that meets it where it goes on, and after that step where it goes
 -- back (gdb's manual, Remote Protocol, "Stop Reply Packets"; the sides are those of its RISC-V target).
 use Rattle.std.specs.Prelude.{◌≡◌, ◌⊎◌, ◌==◌, ℕ, Bool, true, false, Option, Some, None, List, [], ◌∷◌, ◌++◌}
 use Rattle.std.specs.List.{AllByRecursion}
@@ -8,75 +8,73 @@ use Rattle.ckrt_gdb_history.specs.declared.position.Position.{Position}
 use Rattle.ckrt_gdb_history.specs.declared.stop.Stops.{Stops}
 use Rattle.ckrt_gdb_history.specs.declared.stop.Watch.{Watch}
 use Rattle.ckrt_gdb_history.specs.Positions.{History, IsGreatest, IsLeast, NoneBefore, NoneBehind, next_position, previous_position}
-use Rattle.ckrt_gdb_history.specs.Stops.{HasChanged, IsStop, Runner, runner_at}
+use Rattle.ckrt_gdb_history.specs.Stops.{HasMet, IsStop, Runner, runner_at}
 use Rattle.ckrt_gdb_playback.specs.declared.going.Way.{Way}
 use Rattle.ckrt_gdb_playback.specs.declared.going.Way.TheVariants.{On, StepOn, Back, StepBack}
 use Rattle.ckrt_gdb_playback.specs.declared.motion.Found.{Found}
-use Rattle.ckrt_gdb_playback.specs.declared.motion.Found.TheVariants.{Written, Halted, Stepped, Nothing}
+use Rattle.ckrt_gdb_playback.specs.declared.motion.Found.TheVariants.{Met, Halted, Stepped, Nothing}
 use Rattle.ckrt_gdb_playback.specs.declared.limits.Bounds.{Bounds}
 use Rattle.ckrt_gdb_playback.specs.Limits.{IsEndBack, IsEndOn}
 
--- the step that led to a position changed a byte under a watch
-abbrev pub HasWritten : Stops → History → Position → Type 0
-HasWritten stops h p = HasChanged stops.watches.items p h.events h.start
+-- the step that led to a position met a watch
+abbrev pub MeetsWatch : Stops → History → Position → Type 0
+MeetsWatch stops h p = HasMet stops.watches.items p h.events h.start
 
--- it changed a byte under this watch
-abbrev pub IsChangedUnder : Position → List Event → State → Watch → Type 0
-IsChangedUnder p events start w = HasChanged (w ∷ []) p events start
+-- it met this watch
+abbrev pub IsMetUnder : Position → List Event → State → Watch → Type 0
+IsMetUnder p events start w = HasMet (w ∷ []) p events start
 
--- the first of these watches under which it did so begins at the address
-pub record IsFirstWritten (address : ℕ) (watches : List Watch) (p : Position) (events : List Event) (start : State)
+-- the first of these watches that it met is this one
+pub record IsFirstMet (watch : Watch) (watches : List Watch) (p : Position) (events : List Event) (start : State)
     : Type 0 where
   pub earlier : List Watch
-  pub watch : Watch
   pub later : List Watch
   pub split : watches ≡ earlier ++ watch ∷ later
-  pub begins : watch.first ≡ address
-  pub changed : IsChangedUnder p events start watch
-  pub first : AllByRecursion (λ w. IsChangedUnder p events start w → ⊥) earlier
+  pub met : IsMetUnder p events start watch
+  pub first : AllByRecursion (λ w. IsMetUnder p events start w → ⊥) earlier
 
--- and it did so under a watch, the first of which begins at the address
-abbrev pub HasWrittenAt : (address : ℕ) → Stops → History → Position → Type 0
-HasWrittenAt address stops h p =
-    HasWritten stops h p × IsFirstWritten address stops.watches.items p h.events h.start
+-- and this one is the first that it met
+abbrev pub HasMetFirst : Watch → Stops → History → Position → Type 0
+HasMetFirst watch stops h p =
+    MeetsWatch stops h p × IsFirstMet watch stops.watches.items p h.events h.start
 
 -- the same history at another position
 abbrev pub at : Position → History → History
 at p h = record h { position = p }
 
--- a stop here, or before the step that led here, where that changed a watched byte
+-- a stop here, or before the step that led here, where that met a watch
 abbrev pub HasHalted : Stops → (h z : History) → Found → Type 0
-HasHalted stops h z (Written address) =
-    HasWrittenAt address stops h h.position × (z ≡ at (previous_position h.position h.events h.start) h)
-HasHalted stops h z Halted = (HasWritten stops h h.position → ⊥) × (z ≡ h)
+HasHalted stops h z (Met watch) =
+    HasMetFirst watch stops h h.position × (z ≡ at (previous_position h.position h.events h.start) h)
+HasHalted stops h z Halted = (MeetsWatch stops h h.position → ⊥) × (z ≡ h)
 HasHalted stops h z _ = ⊥
 
--- ON: the least position behind this one, and up to `last`, with a reason to stop; before the step that led there, where that changed a
--- watched byte
+-- ON: the least position behind this one, and up to `last`, with a reason to stop; before the step that led there, where that met a
+-- watch
 abbrev pub WentOn : Stops → (last : Position) → (h z : History) → Found → Type 0
-WentOn stops last h z (Written address) =
-    (q : Position) × IsLeast (IsStop stops h) h.position last q h × HasWrittenAt address stops h q
+WentOn stops last h z (Met watch) =
+    (q : Position) × IsLeast (IsStop stops h) h.position last q h × HasMetFirst watch stops h q
     × (z ≡ at (previous_position q h.events h.start) h)
 WentOn stops last h z Halted =
     (z ≡ at z.position h) × IsLeast (IsStop stops h) h.position last z.position h
-    × (HasWritten stops h z.position → ⊥)
+    × (MeetsWatch stops h z.position → ⊥)
 WentOn stops last h z Stepped = ⊥
 WentOn stops last h z Nothing = (z ≡ at last h) × NoneBehind (IsStop stops h) h.position last h
 
--- BACK: here, where the step that led here changed a watched byte; else the greatest position before this one, and from `first` on, with a
+-- BACK: here, where the step that led here met a watch; else the greatest position before this one, and from `first` on, with a
 -- reason to stop
 abbrev pub WentBack : Stops → (first : Position) → (h z : History) → Found → Type 0
-WentBack stops first h z (Written address) =
-    ((z ≡ h) × HasWrittenAt address stops h h.position)
+WentBack stops first h z (Met watch) =
+    ((z ≡ h) × HasMetFirst watch stops h h.position)
     ⊎ ((z ≡ at z.position h) × IsGreatest (IsStop stops h) first h.position z.position h
-    × HasWrittenAt address stops h z.position)
+    × HasMetFirst watch stops h z.position)
 WentBack stops first h z Halted =
-    (z ≡ at z.position h) × (HasWritten stops h h.position → ⊥)
+    (z ≡ at z.position h) × (MeetsWatch stops h h.position → ⊥)
     × IsGreatest (IsStop stops h) first h.position z.position h
-    × (HasWritten stops h z.position → ⊥)
+    × (MeetsWatch stops h z.position → ⊥)
 WentBack stops first h z Stepped = ⊥
 WentBack stops first h z Nothing =
-    (z ≡ at first h) × (HasWritten stops h h.position → ⊥)
+    (z ≡ at first h) × (MeetsWatch stops h h.position → ⊥)
     × NoneBefore (IsStop stops h) first h.position h
 
 -- STEPS OF A THREAD
@@ -104,13 +102,13 @@ abbrev pub IsStepping : ℕ → History → Found → Type 0
 IsStepping t h Halted = is_next t h ≡ true
 IsStepping t h _ = ⊥
 
--- the thread's step led here; or a stop before it, where it changed a watched byte
+-- the thread's step led here; or a stop before it, where it met a watch
 abbrev pub HasStepped : Stops → (h z : History) → Found → Type 0
-HasStepped stops h z (Written address) = HasHalted stops h z (Written address)
+HasStepped stops h z (Met watch) = HasHalted stops h z (Met watch)
 HasStepped stops h z Stepped = HasHalted stops h z Halted
 HasStepped stops h z _ = ⊥
 
--- and then behind that step, or before it where it changes a watched byte
+-- and then after that step, or before it where it meets a watch
 abbrev pub SteppedOn : ℕ → Stops → (last : Position) → (h z : History) → Found → Type 0
 SteppedOn t stops last h z found =
     (before : History) × (halt : Found) × WentToStep t stops last h before halt

@@ -7,10 +7,10 @@ use Rattle.ckrt_gdb_packets.specs.declared.request.Choice.TheVariants.{All, Any,
 use Rattle.ckrt_gdb_packets.specs.declared.request.Request.{Request}
 use Rattle.ckrt_gdb_packets.specs.declared.request.Request.TheVariants.{Examine, Choose, Insert, Remove, Detach, Kill}
 use Rattle.ckrt_gdb_playback.specs.declared.marks.Marked.{Marked}
-use Rattle.ckrt_gdb_playback.specs.declared.marks.Marked.TheVariants.{Done, Full, Unsupported}
+use Rattle.ckrt_gdb_playback.specs.declared.marks.Marked.TheVariants.{Done, Full}
 use Rattle.ckrt_gdb_playback.specs.declared.view.View.{View}
 use Rattle.ckrt_gdb_playback.specs.Look.{done_text, failed_text, is_listed}
-use Rattle.ckrt_gdb_playback.specs.Marks.{HasInserted, HasRemoved, inserted, removed}
+use Rattle.ckrt_gdb_playback.specs.Marks.{HasInserted, HasRemoved, inserted}
 
 -- THE VIEW: of any thread, that of the last stop is examined; who isn't listed isn't
 
@@ -41,13 +41,12 @@ examined_text All known s = done_text true
 abbrev pub marked_text : Marked → List ℕ
 marked_text Done = codes "OK"
 marked_text Full = failed_text 1
-marked_text Unsupported = []
 
 abbrev pub set_text : Request → Stops → (known : ℕ) → threads.State → List ℕ
 set_text (Examine choice) stops known s = examined_text choice known s
 set_text (Choose choice) stops known s = done_text true
 set_text (Insert mark) stops known s = marked_text (inserted mark stops)
-set_text (Remove mark) stops known s = marked_text (removed mark)
+set_text (Remove mark) stops known s = codes "OK"
 set_text Detach stops known s = codes "OK"
 set_text Kill stops known s = codes "OK"
 set_text _ stops known s = []

@@ -9,13 +9,16 @@ use Rattle.ckrt_gdb_packets.specs.declared.reply.Cause.TheVariants as cause
 use Rattle.ckrt_gdb_packets.specs.declared.reply.Cause.{Cause as Reason}
 use Rattle.ckrt_gdb_packets.specs.declared.request.Choice.TheVariants.{Any}
 use Rattle.ckrt_gdb_history.specs.declared.position.Position.{Position}
+use Rattle.ckrt_gdb_history.specs.declared.stop.Watch.{Watch}
+use Rattle.ckrt_gdb_history.specs.declared.stop.WatchKind.{WatchKind}
+use Rattle.ckrt_gdb_history.specs.declared.stop.WatchKind.TheVariants.{Changes, Loads, Accesses}
 use Rattle.ckrt_gdb_history.specs.Positions.{History, previous_position, state_at}
 use Rattle.ckrt_gdb_history.specs.Stops.{Runner, runner_at}
 use Rattle.ckrt_gdb_playback.specs.declared.limits.Bounds.{Bounds}
 use Rattle.ckrt_gdb_playback.specs.declared.going.Way.{Way}
 use Rattle.ckrt_gdb_playback.specs.declared.going.Way.TheVariants.{On, StepOn, Back, StepBack}
 use Rattle.ckrt_gdb_playback.specs.declared.motion.Found.{Found}
-use Rattle.ckrt_gdb_playback.specs.declared.motion.Found.TheVariants.{Written, Halted, Stepped, Nothing}
+use Rattle.ckrt_gdb_playback.specs.declared.motion.Found.TheVariants.{Met, Halted, Stepped, Nothing}
 use Rattle.ckrt_gdb_playback.specs.declared.view.Stopped.{Stopped}
 use Rattle.ckrt_gdb_playback.specs.declared.view.View.{View}
 use Rattle.ckrt_gdb_playback.specs.Look.{is_shown, shown_ids}
@@ -143,9 +146,18 @@ is_end h = nat_le (length h.events) h.position.events
 abbrev pub has_moved : (from to : Position) → Bool
 has_moved from to = not (is_same from to)
 
+-- a watch that a step met, as gdb is told it
+abbrev pub cause_for : WatchKind → (first : ℕ) → Reason
+cause_for Changes a = cause.Written a
+cause_for Loads a = cause.Read a
+cause_for Accesses a = cause.Accessed a
+
+abbrev pub cause_of : Watch → Reason
+cause_of w = cause_for w.kind w.first
+
 -- a motion that was to go on; the thread is the one that was to step, or that of the last stop
 abbrev pub told_on : Option Position → Found → (has_moved : Bool) → ℕ → History → Stopped
-told_on until (Written address) m t h = trap (cause.Written address) (next_or t h)
+told_on until (Met watch) m t h = trap (cause_of watch) (next_or t h)
 told_on until Halted m t h = trap cause.Stopped (next_or t h)
 told_on until Stepped m t h = stepped (is_end h) (status_at h) (shown t (threads_at h))
 told_on until Nothing m t h =
@@ -153,7 +165,7 @@ told_on until Nothing m t h =
 
 -- a motion back
 abbrev pub told_back : Option Position → Found → ℕ → History → Stopped
-told_back until (Written address) t h = trap (cause.Written address) (stepper_or t h)
+told_back until (Met watch) t h = trap (cause_of watch) (stepper_or t h)
 told_back until Nothing t h =
     if is_begin h then trap cause.Begin (next_or t h) else at_end until (next_or t h) h
 told_back until _ t h = trap cause.Stopped (next_or t h)

@@ -51,7 +51,6 @@ fn put_marked(marked: Marked, out: &mut Payload)
     match marked {
         Marked::Done => put_reply(&Reply::Done, out),
         Marked::Full => put_reply(&Reply::Failed(FAILED), out),
-        Marked::Unsupported => put_reply(&Reply::Unsupported, out),
     }
 }
 
@@ -138,7 +137,10 @@ impl Desk {
                 put_done(true, out);
             }
             Request::Insert(mark) => put_marked(insert(&mut self.stops, *mark), out),
-            Request::Remove(mark) => put_marked(remove(&mut self.stops, *mark), out),
+            Request::Remove(mark) => {
+                remove(&mut self.stops, *mark);
+                put_reply(&Reply::Done, out);
+            }
             Request::Detach | Request::Kill => put_reply(&Reply::Done, out),
             _ => put_reply(&Reply::Unsupported, out),
         }

@@ -1,10 +1,10 @@
 //! Where gdb wants stops.
 ghost use Rattle.std.specs.Prelude.{◌≡◌, ◌≤◌};
 ghost use Rattle.ckrt_gdb_history.specs.Stops.{widths};
-ghost use Rattle.ckrt_gdb_playback.specs.Marks.{AreStops, HasInserted, HasRemoved, by_room, has_breakpoint, has_watch, inserted, is_breakpoint, is_watch, removed, takes_breakpoint, takes_watch, watch_of, with_breakpoint, with_watch, without_breakpoint, without_watch};
+ghost use Rattle.ckrt_gdb_playback.specs.Marks.{AreStops, HasInserted, HasRemoved, by_room, has_breakpoint, has_watch, inserted, is_breakpoint, is_kind, is_watch, takes_breakpoint, takes_watch, watch_of, with_breakpoint, with_watch, without_breakpoint, without_watch};
 
 use arrayvec::ArrayVec;
-use ckrt_gdb_history::{BREAKPOINT_LIMIT, Breakpoint, Stops, WATCH_LIMIT, Watch};
+use ckrt_gdb_history::{BREAKPOINT_LIMIT, Breakpoint, Stops, WATCH_LIMIT, Watch, WatchKind};
 use ckrt_gdb_packets::Mark;
 
 type Breakpoints = ArrayVec<Breakpoint, 64>;
@@ -17,8 +17,6 @@ pub enum Marked {
     Done,
     /// There is no room for more.
     Full,
-    /// The stub has no stops of the kind: loads aren't seen.
-    Unsupported,
 }
 
 /// Whether a breakpoint is of any thread, and at the address.
@@ -37,21 +35,33 @@ fn has_breakpoint(breakpoints: &[Breakpoint], address: u32) -> bool
         .any(|there| is_breakpoint(there, address))
 }
 
-/// A watch of so many bytes, at least one.
-fn watch_of(first: u32, size: u32) -> Watch
-    ensures { result ≡ watch_of first size }
+/// A watch of a kind, of so many bytes, at least one.
+fn watch_of(kind: WatchKind, first: u32, size: u32) -> Watch
+    ensures { result ≡ watch_of kind first size }
 {
     Watch {
+        kind,
         first,
         last: first.saturating_add(size.saturating_sub(1)),
     }
 }
 
-/// Whether the two are of the same addresses.
+/// Whether the two are one kind.
+fn is_kind(wanted: WatchKind, there: WatchKind) -> bool
+    ensures { result ≡ is_kind wanted there }
+{
+    match wanted {
+        WatchKind::Changes => matches!(there, WatchKind::Changes),
+        WatchKind::Loads => matches!(there, WatchKind::Loads),
+        WatchKind::Accesses => matches!(there, WatchKind::Accesses),
+    }
+}
+
+/// Whether the two are of one kind, and of the same addresses.
 fn is_watch(there: &Watch, wanted: Watch) -> bool
     ensures { result ≡ is_watch wanted there.now }
 {
-    there.first == wanted.first && there.last == wanted.last
+    is_kind(wanted.kind, there.kind) && there.first == wanted.first && there.last == wanted.last
 }
 
 /// Whether one of them is.
@@ -116,8 +126,15 @@ pub fn insert(stops: &mut Stops, mark: Mark) -> Marked
 {
     match mark {
         Mark::Execution(address) => by_room(insert_breakpoint(&mut stops.breakpoints, address)),
-        Mark::Writes(first, size) => by_room(insert_watch(stops, watch_of(first, size))),
-        Mark::Reads(_, _) | Mark::Accesses(_, _) => Marked::Unsupported,
+        Mark::Writes(first, size) => {
+            by_room(insert_watch(stops, watch_of(WatchKind::Changes, first, size)))
+        }
+        Mark::Reads(first, size) => {
+            by_room(insert_watch(stops, watch_of(WatchKind::Loads, first, size)))
+        }
+        Mark::Accesses(first, size) => {
+            by_room(insert_watch(stops, watch_of(WatchKind::Accesses, first, size)))
+        }
     }
 }
 
@@ -129,23 +146,38 @@ fn remove_breakpoint(breakpoints: &mut Breakpoints, address: u32)
 }
 
 /// The watch goes, if it is there.
-fn remove_watch(watches: &mut Watches, wanted: Watch)
+fn retain_others(watches: &mut Watches, wanted: Watch)
     ensures { watches.new.items ≡ without_watch wanted watches.old.items }
 {
     watches.retain(|there| !is_watch(there, wanted));
 }
 
-/// gdb doesn't want the stop any more.
-pub fn remove(stops: &mut Stops, mark: Mark) -> Marked
+/// The same of all stops.
+fn remove_watch(stops: &mut Stops, wanted: Watch)
     requires { widths stops.old.watches.items ≤ 256 }
     ensures width { widths stops.new.watches.items ≤ 256 }
-    ensures marked { result ≡ removed mark }
+    ensures stops { AreStops stops.old.breakpoints.items
+        (without_watch wanted stops.old.watches.items) stops.old stops.new }
+{
+    retain_others(&mut stops.watches, wanted);
+}
+
+/// gdb doesn't want the stop any more.
+pub fn remove(stops: &mut Stops, mark: Mark)
+    requires { widths stops.old.watches.items ≤ 256 }
+    ensures width { widths stops.new.watches.items ≤ 256 }
     ensures stops { HasRemoved mark stops.old stops.new }
 {
     match mark {
         Mark::Execution(address) => remove_breakpoint(&mut stops.breakpoints, address),
-        Mark::Writes(first, size) => remove_watch(&mut stops.watches, watch_of(first, size)),
-        Mark::Reads(_, _) | Mark::Accesses(_, _) => return Marked::Unsupported,
+        Mark::Writes(first, size) => {
+            remove_watch(stops, watch_of(WatchKind::Changes, first, size));
+        }
+        Mark::Reads(first, size) => {
+            remove_watch(stops, watch_of(WatchKind::Loads, first, size));
+        }
+        Mark::Accesses(first, size) => {
+            remove_watch(stops, watch_of(WatchKind::Accesses, first, size));
+        }
     }
-    Marked::Done
 }

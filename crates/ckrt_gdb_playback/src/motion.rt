@@ -1,16 +1,16 @@
 //! Motions through a history, and where they stop.
 ghost use Rattle.std.specs.Prelude.{◌≡◌, ◌≤◌, ◌↔◌, [], ◌∷◌, IfSome, IsNone, IsTrue};
 ghost use Rattle.ckrt_gdb_history.specs.Positions.{IsPosition, IsUpTo};
-ghost use Rattle.ckrt_gdb_history.specs.Stops.{HasChanged, widths};
-ghost use Rattle.ckrt_gdb_playback.specs.Motions.{HasHalted, HasStepped, HasWritten, HasWrittenAt, IsFirstWritten, IsStepping, SteppedOn, WentBack, WentOn, WentToStep, and_steps_of, is_next};
+ghost use Rattle.ckrt_gdb_history.specs.Stops.{HasMet, widths};
+ghost use Rattle.ckrt_gdb_playback.specs.Motions.{HasHalted, HasStepped, MeetsWatch, HasMetFirst, IsFirstMet, IsStepping, SteppedOn, WentBack, WentOn, WentToStep, and_steps_of, is_next};
 
 use ckrt_gdb_history::{History, Position, Stops, Watch};
 
 /// Why a motion ended.
 #[derive(Clone, Copy)]
 pub enum Found {
-    /// A watched byte was changed. The number is the first address of the first watch under which one was.
-    Written(u32),
+    /// A step met a watch. This is the first that it met.
+    Met(Watch),
     /// A step is next before which there is to be a stop.
     Halted,
     /// The thread's step was made.
@@ -28,47 +28,47 @@ fn only(watch: Watch) -> Stops
     stops
 }
 
-/// The first address of the first watch under which the step that led here changed a byte.
-fn watch_of(history: &mut History, watches: &[Watch]) -> u32
+/// The first watch that the step that led here met.
+fn watch_of(history: &mut History, watches: &[Watch]) -> Watch
     requires width { widths watches.now ≤ 256 }
-    requires changed { HasChanged watches.now history.old.position history.old.events
+    requires met { HasMet watches.now history.old.position history.old.events
         history.old.start }
     ensures history { history.new ≡ history.old }
-    ensures first { IsFirstWritten result watches.now history.old.position history.old.events
+    ensures first { IsFirstMet result watches.now history.old.position history.old.events
         history.old.start }
 {
     let [watch, rest @ ..] = watches else {
         unreachable!()
     };
-    if history.has_changed(&only(*watch)) {
-        return watch.first;
+    if history.has_met(&only(*watch)) {
+        return *watch;
     }
     watch_of(history, rest)
 }
 
-/// The first address of the first watch under which the step that led here changed a byte, if there is one.
-fn written(history: &mut History, stops: &Stops) -> Option<u32>
+/// The first watch that the step that led here met, if it met one.
+fn met(history: &mut History, stops: &Stops) -> Option<Watch>
     requires { widths stops.now.watches.items ≤ 256 }
     ensures history { history.new ≡ history.old }
-    ensures none { IsNone result → HasWritten stops.now history.old history.old.position → ⊥ }
-    ensures written { IfSome result (λ address.
-        HasWrittenAt address stops.now history.old history.old.position) }
+    ensures none { IsNone result → MeetsWatch stops.now history.old history.old.position → ⊥ }
+    ensures first { IfSome result (λ watch.
+        HasMetFirst watch stops.now history.old history.old.position) }
 {
-    if !history.has_changed(stops) {
+    if !history.has_met(stops) {
         return None;
     }
     Some(watch_of(history, stops.watches.as_slice()))
 }
 
-/// A stop here, or before the step that led here, where that changed a watched byte.
+/// A stop here, or before the step that led here, where that met a watch.
 fn halt(history: &mut History, stops: &Stops) -> Found
     requires { widths stops.now.watches.items ≤ 256 }
     ensures { HasHalted stops.now history.old history.new result }
 {
-    match written(history, stops) {
-        Some(address) => {
+    match met(history, stops) {
+        Some(watch) => {
             history.step_back();
-            Found::Written(address)
+            Found::Met(watch)
         }
         None => Found::Halted,
     }
@@ -94,14 +94,14 @@ pub fn go_back(history: &mut History, stops: &Stops, first: Position) -> Found
     requires behind { IsUpTo first history.old.position }
     ensures { WentBack stops.now first history.old history.new result }
 {
-    if let Some(address) = written(history, stops) {
-        return Found::Written(address);
+    if let Some(watch) = met(history, stops) {
+        return Found::Met(watch);
     }
     if !history.backward(stops, first) {
         return Found::Nothing;
     }
-    match written(history, stops) {
-        Some(address) => Found::Written(address),
+    match met(history, stops) {
+        Some(watch) => Found::Met(watch),
         None => Found::Halted,
     }
 }
@@ -140,17 +140,17 @@ fn is_stepping(history: &History, thread: u8, found: Found) -> bool
 {
     match found {
         Found::Halted => is_next(history, thread),
-        Found::Written(_) | Found::Stepped | Found::Nothing => false,
+        Found::Met(_) | Found::Stepped | Found::Nothing => false,
     }
 }
 
-/// The thread's step led here: a stop here, or before it, where it changed a watched byte.
+/// The thread's step led here: a stop here, or before it, where it met a watch.
 fn halt_behind(history: &mut History, stops: &Stops) -> Found
     requires { widths stops.now.watches.items ≤ 256 }
     ensures { HasStepped stops.now history.old history.new result }
 {
     match halt(history, stops) {
-        Found::Written(address) => Found::Written(address),
+        Found::Met(watch) => Found::Met(watch),
         Found::Halted => Found::Stepped,
         Found::Stepped | Found::Nothing => unreachable!(),
     }

@@ -1,11 +1,11 @@
 //! How a stop is told.
 ghost use Rattle.std.specs.Prelude.{◌≡◌};
-ghost use Rattle.ckrt_gdb_playback.specs.Told.{ender_by, ender_or, exited, first_view, is_interrupted, standing_in, ending_of, has_moved, interrupted, is_begin, is_end, next_or, shown, signal_of, status_at, stepped, stepper_or, told_back, told_on, trap, reached, is_same, is_named, at_end};
+ghost use Rattle.ckrt_gdb_playback.specs.Told.{cause_of, ender_by, ender_or, exited, first_view, is_interrupted, standing_in, ending_of, has_moved, interrupted, is_begin, is_end, next_or, shown, signal_of, status_at, stepped, stepper_or, told_back, told_on, trap, reached, is_same, is_named, at_end};
 
 use crate::motion::Found;
 use crate::threads::{is_shown, shown_ids};
 use crate::view::{Stopped, View};
-use ckrt_gdb_history::{History, Position};
+use ckrt_gdb_history::{History, Position, Watch, WatchKind};
 use ckrt_gdb_packets::{Cause, Choice};
 use ckrt_rv32i::Cause as Fault;
 use ckrt_state::Status;
@@ -256,6 +256,17 @@ fn stepped(is_end: bool, status: Status, thread: ThreadId) -> Stopped
     }
 }
 
+/// A watch that a step met, as gdb is told it.
+fn cause_of(watch: &Watch) -> Cause
+    ensures { result ≡ cause_of watch.now }
+{
+    match watch.kind {
+        WatchKind::Changes => Cause::Written(watch.first),
+        WatchKind::Loads => Cause::Read(watch.first),
+        WatchKind::Accesses => Cause::Accessed(watch.first),
+    }
+}
+
 /// A motion that was to go on, and `has_moved` if it did. The thread is the one that was to step, or that of the last stop.
 pub fn told_on(
     history: &mut History,
@@ -272,7 +283,7 @@ pub fn told_on(
     let status = status_at(history);
     let is_end = is_end(history);
     match found {
-        Found::Written(address) => trap(Cause::Written(address), next),
+        Found::Met(watch) => trap(cause_of(&watch), next),
         Found::Halted => trap(Cause::Stopped, next),
         Found::Stepped => stepped(is_end, status, shown),
         Found::Nothing if is_end => ending(status, has_moved, ender_or(history, thread)),
@@ -292,7 +303,7 @@ pub fn told_back(
 {
     let next = next_or(history, thread);
     match found {
-        Found::Written(address) => trap(Cause::Written(address), stepper_or(history, thread)),
+        Found::Met(watch) => trap(cause_of(&watch), stepper_or(history, thread)),
         Found::Halted | Found::Stepped => trap(Cause::Stopped, next),
         Found::Nothing if is_begin(history) => trap(Cause::Begin, next),
         Found::Nothing => at_end(history, until, next),

@@ -27,7 +27,8 @@ use Rattle.ckrt_look_races.specs.declared.accesses.Stepping.{Stepping}
 use Rattle.ckrt_look_races.specs.declared.accesses.Order.{Order}
 use Rattle.ckrt_look_races.specs.declared.accesses.Order.TheVariants as order
 use Rattle.ckrt_look_races.specs.declared.holders.Lock.TheVariants as lock
-use Rattle.ckrt_look_races.specs.Accesses.{access_of, accesses, fence_by, fence_operations, fetched, is_renewal, is_thread_fence, load_at, load_operations, load_order, may_access, of_instruction, of_registers, renewal, store_at, store_operations, store_order}
+use Rattle.ckrt_look_steps.specs.Accesses.{fetched, may_access}
+use Rattle.ckrt_look_races.specs.Accesses.{access_of, accesses, fence_by, fence_operations, is_renewal, is_thread_fence, load_at, load_operations, load_order, of_instruction, of_registers, renewal, store_at, store_operations, store_order}
 use Rattle.ckrt_look_races.specs.Holders.{HOLDERS}
 use Rattle.ckrt_look_races.specs.Kit.{is_in_kit}
 use Rattle.ckrt_look_races.specs.Orders.{between}

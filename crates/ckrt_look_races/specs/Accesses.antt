@@ -1,9 +1,8 @@
 -- What a step that is no call loads or stores, or gives anew. Fetches are no accesses.
 use Rattle.std.specs.Prelude.{ℕ, ◌+◌, ◌-◌, ◌/◌, ◌%◌, ◌==◌, ◌&&◌, Bool, true, false, if◌then◌else◌, List, [], ◌∷◌, Option, Some, None}
 use Rattle.ckrt_registers.specs.Registers.{Registers, get}
-use Rattle.ckrt_rv32i.specs.Decoding.{instruction_of}
 use Rattle.ckrt_rv32i.specs.Effect.{following, load_size}
-use Rattle.ckrt_rv32i.specs.Memory.{byte_count, is_aligned, is_valid, loaded}
+use Rattle.ckrt_rv32i.specs.Memory.{byte_count, is_valid, loaded}
 use Rattle.ckrt_rv32i.specs.Words.{word_add_signed}
 use Rattle.ckrt_rv32i.specs.declared.instruction.Instr.{Instr}
 use Rattle.ckrt_rv32i.specs.declared.instruction.Instr.TheVariants as instr
@@ -17,6 +16,7 @@ use Rattle.ckrt_look_clocks.specs.declared.operation.Access.{Access}
 use Rattle.ckrt_look_clocks.specs.declared.operation.Place.{Place}
 use Rattle.ckrt_look_clocks.specs.declared.operation.Operation.{Operation}
 use Rattle.ckrt_look_clocks.specs.declared.operation.Operation.TheVariants as operation
+use Rattle.ckrt_look_steps.specs.Accesses.{fetched, may_access}
 use Rattle.ckrt_look_races.specs.declared.accesses.Order.{Order}
 use Rattle.ckrt_look_races.specs.declared.accesses.Order.TheVariants as order
 use Rattle.ckrt_look_races.specs.declared.accesses.Stepping.{Stepping}
@@ -99,10 +99,6 @@ store_operations s order.Orders a z =
     operation.Access (access_of s true true a z)
     ∷ released s.thread (lock.Word a) (place_behind s.place) ∷ []
 
--- only where the address is one of the memory, and aligned
-abbrev pub may_access : List ℕ → (address : ℕ) → Size → Bool
-may_access bytes a z = is_aligned a z && is_valid bytes a z
-
 abbrev pub load_at : List ℕ → Stepping → (address : ℕ) → Size → List Operation
 load_at bytes s a z =
     if may_access bytes a z then load_operations s (load_order bytes s) a z else []
@@ -145,11 +141,6 @@ of_instruction bytes s (Some (instr.Store z rs1 rs2 offset)) =
 of_instruction bytes s (Some (instr.Fence rd rs1 sets)) = fence_by s sets
 of_instruction bytes s (Some (instr.Alu op rd rs1 rs2)) = renewal_by s op rd rs1 rs2
 of_instruction bytes s _ = []
-
--- the instruction at an address
-abbrev pub fetched : List ℕ → (pc : ℕ) → Option Instr
-fetched bytes pc =
-    if is_valid bytes pc size.Word then instruction_of (loaded bytes pc size.Word) else None
 
 abbrev pub of_registers : (t : ℕ) → (is_in_kit : Bool) → Place → List ℕ → Option Registers → List Operation
 of_registers t k p bytes None = []

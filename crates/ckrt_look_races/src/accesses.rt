@@ -1,19 +1,19 @@
 //! Loads and stores, and memory that is given anew.
-ghost use Rattle.std.specs.Prelude.{◌≡◌, ◌<◌, ◌%◌, IfSome};
+ghost use Rattle.std.specs.Prelude.{◌≡◌, ◌<◌, ◌%◌};
 ghost use Rattle.ckrt_machine.specs.Steps.{hart_of};
-ghost use Rattle.ckrt_rv32i.specs.Memory.{byte_count};
-ghost use Rattle.ckrt_rv32i.specs.Table.{IsInRange};
 ghost use Rattle.ckrt_look_clocks.specs.declared.operation.Operation.TheVariants as operation;
 ghost use Rattle.ckrt_look_clocks.specs.Detection.{behind_all};
-ghost use Rattle.ckrt_look_races.specs.Accesses.{access_of, accesses, place_behind, fence_by, fence_operations, fetched, is_renewal, is_thread_fence, is_word_at, load_at, load_operations, load_order, may_access, of_instruction, order_by, renewal_by, store_at, store_operations, store_order, told};
+ghost use Rattle.ckrt_look_steps.specs.Accesses.{fetched};
+ghost use Rattle.ckrt_look_races.specs.Accesses.{access_of, accesses, place_behind, fence_by, fence_operations, is_renewal, is_thread_fence, is_word_at, load_at, load_operations, load_order, of_instruction, order_by, renewal_by, store_at, store_operations, store_order, told};
 
 use crate::holders::{Lock, acquired, handed_on, released, thread_holder};
 use crate::kit::is_in_kit;
 use ckrt_look_clocks::{Access, Detector, Place};
+use ckrt_look_steps::{byte_count, fetched, may_access};
 use ckrt_machine::Machine;
 use ckrt_memory::Memory;
 use ckrt_registers::Regs;
-use ckrt_rv32i::{AluOp, Bus, Instr, Size, decode};
+use ckrt_rv32i::{AluOp, Bus, Instr, Size};
 
 /// FENCE R,RW stands behind an atomic load that acquires.
 const FENCE_R_RW: u32 = 0x0230_000F;
@@ -45,17 +45,6 @@ pub(crate) struct Stepping {
     pub(crate) is_in_kit: bool,
     pub(crate) place: Place,
     pub(crate) regs: Regs,
-}
-
-/// How many bytes there are of a size.
-fn byte_count(size: Size) -> u8
-    ensures { result ≡ byte_count size }
-{
-    match size {
-        Size::Byte => 1,
-        Size::Half => 2,
-        Size::Word => 4,
-    }
 }
 
 /// Whether a word stands at an address.
@@ -186,20 +175,13 @@ fn note_store(step: &Stepping, order: Order, address: u32, size: Size, detector:
     detector.note(&released(step.thread, word, behind));
 }
 
-/// Whether so many bytes from an address on are in the memory, and aligned.
-fn may_access(memory: &Memory, address: u32, size: Size) -> bool
-    ensures { result ≡ may_access memory.now.bytes address size }
-{
-    size.is_aligned(address) && memory.load(address, size).is_some()
-}
-
 /// A load, if it is none that faults.
 fn watch_load(memory: &Memory, step: &Stepping, address: u32, size: Size, detector: &mut Detector)
     requires { step.now.regs.pc % 4 ≡ 0 }
     ensures { detector.new
         ≡ behind_all (load_at memory.now.bytes step.now address size) detector.old }
 {
-    if may_access(memory, address, size) {
+    if may_access(memory.as_slice(), address, size) {
         note_load(step, load_order(memory, step), address, size, detector);
     }
 }
@@ -211,7 +193,7 @@ fn watch_store(memory: &Memory, step: &Stepping, address: u32, size: Size, detec
     ensures { detector.new
         ≡ behind_all (store_at memory.now.bytes step.now address size) detector.old }
 {
-    if may_access(memory, address, size) {
+    if may_access(memory.as_slice(), address, size) {
         note_store(step, store_order(memory, step), address, size, detector);
     }
 }
@@ -255,15 +237,6 @@ fn watch_renewal(step: &Stepping, op: AluOp, rd: u8, rs1: u8, rs2: u8, detector:
     }
 }
 
-/// The instruction at an address.
-fn fetched(memory: &Memory, pc: u32) -> Option<Instr>
-    requires { pc % 4 ≡ 0 }
-    ensures value { result ≡ fetched memory.now.bytes pc }
-    ensures in_range { IfSome result IsInRange }
-{
-    decode(memory.load(pc, Size::Word)?)
-}
-
 /// What an instruction accesses.
 fn watch_instruction(memory: &Memory, step: &Stepping, detector: &mut Detector)
     requires aligned { step.now.regs.pc % 4 ≡ 0 }
@@ -272,7 +245,7 @@ fn watch_instruction(memory: &Memory, step: &Stepping, detector: &mut Detector)
         ≡ behind_all (of_instruction memory.now.bytes step.now
         (fetched memory.now.bytes step.now.regs.pc)) detector.old }
 {
-    match fetched(memory, step.regs.pc()) {
+    match fetched(memory.as_slice(), step.regs.pc()) {
         Some(
             Instr::Load {
                 kind,

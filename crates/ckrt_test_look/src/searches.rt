@@ -2,7 +2,7 @@
 
 use crate::expect::expect_eq;
 use crate::plans::{go_to, history_of};
-use ckrt_gdb_history::{Breakpoint, History, Position, Stops, Watch};
+use ckrt_gdb_history::{Breakpoint, History, Position, Stops, Watch, WatchKind};
 use ckrt_test_data::{BOUNDED, COUNTERS, PAIR};
 use std::process::Abort;
 
@@ -27,21 +27,80 @@ impl Case {
     }
 }
 
-/// The bytes under a watch, as one number.
+/// The byte at an address, where there is one.
+fn byte_at(history: &History, address: u32) -> Option<u8> {
+    let memory = history.machine().memory();
+    let page = address / 4096;
+    if page == 0 || page >= memory.pages() {
+        return None;
+    }
+    Some(memory.page(page)[(address % 4096) as usize])
+}
+
+/// The bytes under a watch of changes, as one number.
 fn bytes_under(history: &History, watch: Option<Watch>) -> u64 {
     let Some(watch) = watch else {
         return 0;
     };
-    let memory = history.machine().memory();
+    if watch.kind != WatchKind::Changes {
+        return 0;
+    }
     let mut all = 0u64;
     for address in watch.first..watch.last.saturating_add(1) {
-        let page = address / 4096;
-        if 1 <= page && page < memory.pages() {
-            let byte = memory.page(page)[(address % 4096) as usize];
+        if let Some(byte) = byte_at(history, address) {
             all = all.wrapping_mul(257).wrapping_add(u64::from(byte));
         }
     }
     all
+}
+
+/// The word at an address; 0 where there is none.
+fn word_at(history: &History, address: u32) -> u32 {
+    let mut word = 0u32;
+    for place in 0..4u32 {
+        let byte = byte_at(history, address.wrapping_add(3 - place)).unwrap_or(0);
+        word = word.wrapping_mul(256).wrapping_add(u32::from(byte));
+    }
+    word
+}
+
+/// What a word loads or stores (unprivileged manual, section 2.6): whether it stores, its base, its offset, and how many bytes.
+fn access_of(word: u32) -> Option<(bool, u8, u32, u32)> {
+    let base = (word >> 15) as u8 % 32;
+    let bytes = match (word >> 12) % 4 {
+        0 => 1,
+        1 => 2,
+        _ => 4,
+    };
+    let sign = if word >> 31 == 1 { 0xffff_f000 } else { 0 };
+    match word % 128 {
+        0x03 => Some((false, base, sign | (word >> 20), bytes)),
+        0x23 => {
+            let low = (word >> 7) % 32;
+            Some((true, base, sign | (word >> 25) * 32 | low, bytes))
+        }
+        _ => None,
+    }
+}
+
+/// Whether a watch stops for what the next step loads or stores.
+fn is_seen(history: &History, watch: Option<Watch>) -> bool {
+    let (Some(watch), Some((thread, pc))) = (watch, history.runner()) else {
+        return false;
+    };
+    let Some((stores, base, offset, bytes)) = access_of(word_at(history, pc)) else {
+        return false;
+    };
+    let Some(regs) = history.machine().tables().threads.regs(thread) else {
+        return false;
+    };
+    let first = regs.get(base).wrapping_add(offset);
+    let is_of_kind = match watch.kind {
+        WatchKind::Changes => false,
+        WatchKind::Loads => !stores,
+        WatchKind::Accesses => true,
+    };
+    is_of_kind && first <= watch.last && watch.first < first.saturating_add(bytes)
 }
 
 /// Whether a thread is to step at the breakpoint.
@@ -69,14 +128,17 @@ fn look<R: Abort + AllocGlobal>(
     let mut all = Vec::new(rt.alloc());
     go_to(rt, history, Position::at_event(0));
     let mut before = bytes_under(history, case.watch);
+    let mut was_seen = false;
     for _ in 0..1_000_000 {
         let position = history.position();
         let bytes = bytes_under(history, case.watch);
         let stops = is_hit(history, case.breakpoint)
             || (case.event_ends && position.steps == 0)
             || is_step_of(history, case.thread)
-            || bytes != before;
+            || bytes != before
+            || was_seen;
         before = bytes;
+        was_seen = is_seen(history, case.watch);
         assert!(rt; all.push((position, stops)).is_ok(), "memory for positions");
         if position.events >= history.events().len() {
             return all;
@@ -189,6 +251,7 @@ fn compare<R: Abort + AllocGlobal>(rt: &R, case: &Case) {
 
 /// The counter of the guest of four threads, at address 0x3000.
 const COUNTER: Watch = Watch {
+    kind: WatchKind::Changes,
     first: 0x3000,
     last: 0x3003,
 };
@@ -213,10 +276,12 @@ fn searches_find_what_a_look_at_each_finds(rt: HostRuntime) {
         thread: Some(2),
     };
     let two_pages = Watch {
+        kind: WatchKind::Changes,
         first: 0xfff,
         last: 0x1003,
     };
     let outside = Watch {
+        kind: WatchKind::Changes,
         first: 0xffff_ffff,
         last: 0xffff_ffff,
     };
@@ -236,4 +301,34 @@ fn searches_find_what_a_look_at_each_finds(rt: HostRuntime) {
     compare(&rt, &plain(&BOUNDED, 9, 50).with_steps_of(2));
     let watched = case(&COUNTERS, 30, 7, Some(worker), Some(COUNTER), false);
     compare(&rt, &watched.with_steps_of(4));
+}
+
+/// Searches of the guest of four threads that have a watch alone, or a breakpoint or the steps of a thread beside it.
+fn compare_watched<R: Abort + AllocGlobal>(rt: &R, kind: WatchKind, first: u32, last: u32) {
+    let case = |steps, kept, breakpoint| Case {
+        words: &COUNTERS,
+        steps,
+        kept,
+        breakpoint,
+        watch: Some(Watch { kind, first, last }),
+        event_ends: false,
+        thread: None,
+    };
+    let worker = Breakpoint {
+        address: 0x1070,
+        thread: None,
+    };
+    compare(rt, &case(5, 7, None));
+    compare(rt, &case(50, 3, Some(worker)));
+    compare(rt, &case(13, 20, None).with_steps_of(3));
+}
+
+#[test]
+fn searches_find_loads_and_stores(rt: HostRuntime) {
+    for kind in [WatchKind::Loads, WatchKind::Accesses] {
+        compare_watched(&rt, kind, 0x3000, 0x3003);
+        compare_watched(&rt, kind, 0x2fff, 0x3000);
+        compare_watched(&rt, kind, 0x3003, 0x3010);
+        compare_watched(&rt, kind, 0x3004, 0x3004);
+    }
 }

@@ -1,13 +1,16 @@
 """Cases of `ckrt hunt`: guests whose threads mostly end or stand still, and seeds; each seed's run is kept, and its disk looked at."""
 import re
+import shutil
 import subprocess
-from dataclasses import dataclass
+from dataclasses import dataclass, replace
+from random import Random
 
 from cases.guests import RETURN
 from cases.sharers import Sharer
 from model.abi import Call
 from model.assembler import STOP, Jump, call_words, image_of
-from model.hunts import Folded, Options, fold, is_fed, known_lines, line_of_kept, lines_of_table, said_of, status_of, text_of_outcome
+from model.hunts import (SAID, Folded, Options, fold, is_fed, known_lines, line_of_kept, lines_of_table, refusal_of_keep, said_of, status_of,
+                         text_of_outcome)
 from model.stretches import Recording
 
 TIME_LIMIT = 60
@@ -48,7 +51,8 @@ class HuntsCase:
 def hunts_case(chance, seed):
     data = chance.choice([None, b"", b"\xff", chance.randbytes(chance.choice([63, 64, 65, 300, 5000]))])
     fed = None if data is None else "input"
-    options = Options(chance.choice([16, 17]), chance.choice([1, 1, 2, 3]), chance.choice([50, 500, 3000, 3000]), fed)
+    options = Options(chance.choice([16, 17]), chance.choice([1, 1, 2, 3]), chance.choice([50, 500, 3000, 3000]), fed,
+                      ignores_output=Random(f"ignored output {seed}").random() < 0.3)
     first = chance.choice([1, chance.randrange(1000), chance.randrange(LAST_SEED - 9), LAST_SEED - 4])
     return HuntsCase(Hunted(chance, data is not None).image, range(first, first + chance.choice([1, 3, 5])), options, data)
 
@@ -83,7 +87,7 @@ def kept_run(ckrt, case, folder, seed):
     if not is_fed(recording, case.input):
         return None, "an input that isn't given as a drive gives it"
     folded = fold(recording)
-    outcome, most = text_of_outcome(folded, options.steps), max(folded.steps, folded.events)
+    outcome, most = text_of_outcome(folded, options.steps, options.ignores_output), max(folded.steps, folded.events)
     if most > options.steps or (outcome.startswith("no end") and most < options.steps):
         return None, f"{outcome}: {folded.steps} steps and {folded.events} events"
     return Kept(status, lines, recording, folded, outcome), None
@@ -98,8 +102,8 @@ def difference_of_kept(ckrt, case, folder, seed):
     if drawn is None or int(drawn[1]) < switches:
         return None, f"{switches} switches: {kept.lines[-1]}"
     table = lines_of_table("image", {seed: kept.outcome}, case.options, {seed: said_of(kept.folded)})
-    expected = known_lines([*table, line_of_kept(seed, "kept", switches, drawn[1])])
-    shown = kept.status, known_lines(kept.lines)
+    expected = known_lines([*table, line_of_kept(seed, "kept", switches, drawn[1])], case.options.ignores_output)
+    shown = kept.status, known_lines(kept.lines, case.options.ignores_output)
     wanted = status_of([kept.outcome]), expected
     return kept, None if shown == wanted else f"model {wanted}, program {shown}"
 
@@ -117,7 +121,53 @@ def difference_of_hunts(ckrt, case, folder, tally):
         outcomes[seed], said[seed] = kept.outcome, said_of(kept.folded)
         tally["outcome of a hunt", kept.outcome.split(",")[0].split()[0]] += 1
         tally["said in a hunt", "a line" if said[seed] else "nothing"] += 1
-    expected = status_of(outcomes.values()), known_lines(lines_of_table("image", outcomes, case.options, said))
+    ignores = case.options.ignores_output
+    tally["output of a hunt", "ignored" if ignores else "compared"] += 1
+    expected = status_of(outcomes.values()), known_lines(lines_of_table("image", outcomes, case.options, said), ignores)
     status, lines = hunt(ckrt, folder, case.seeds, case.options)
-    shown = status, known_lines(lines)
-    return None if shown == expected else f"table: model {expected}, program {shown}"
+    shown = status, known_lines(lines, ignores)
+    difference = None if shown == expected else f"table: model {expected}, program {shown}"
+    return difference or difference_of_said(ckrt, case, folder, lines) or difference_of_refused(ckrt, case, folder, tally)
+
+
+def difference_of_said(ckrt, case, folder, lines):
+    """Where no output tells outcomes apart, what stands below an outcome is what its first seed's run said, as a hunt of that seed has it that compares
+    outputs."""
+    if not case.options.ignores_output:
+        return None
+    for line, below in zip(lines, lines[1:]):
+        if line.startswith("outcome "):
+            seed = int(re.search(r"first by seed (\d+): ", line)[1])
+            compared = hunt(ckrt, folder, [seed], replace(case.options, ignores_output=False))[1]
+            said = [other for other in (below, compared[1]) if other.startswith(SAID)]
+            if len(set(said)) > 1 or len(said) == 1:
+                return f"{line} {below!r}: where outputs are compared {compared}"
+    return None
+
+
+REFUSED = ["taken", "link", "made/", "none/", "image/", "none/disk", "image/disk", "made"]
+
+
+def listed(folder):
+    """What lies in a folder, with its bytes."""
+    return {str(file.relative_to(folder)): file.read_bytes() if file.is_file() else file.is_symlink() for file in sorted(folder.rglob("*"))}
+
+
+def difference_of_refused(ckrt, case, folder, tally):
+    """Where no disk can be made, that is told before anything is opened: there is no such image. Nothing is left, nor touched."""
+    place = folder / "refused"
+    (place / "made").mkdir(parents=True)
+    for name in ("taken", "taken.making", "image", "made/outcome-1.disk", "made/outcome-1.disk.making"):
+        (place / name).write_bytes(b"something")
+    (place / "link").symlink_to("nowhere")
+    before, words = listed(place), [*case.options.words().split(), "--seeds", f"{case.seeds[0]}-{case.seeds[-1]}"]
+    differences = []
+    for path in REFUSED:
+        done = subprocess.run([ckrt, "hunt", "missing", *words, "--keep", path], cwd=place, capture_output=True, timeout=TIME_LIMIT, text=True)
+        shown, expected = done.stderr.splitlines()[-2:], [refusal_of_keep(path, place), "ckrt: File"]
+        tally["refused --keep", path] += 1
+        if (done.returncode, done.stdout, shown) != (1, "", expected):
+            differences.append(f"--keep {path}: model {expected}, program {done.returncode} {done.stdout!r} {shown}")
+    differences += [f"left of refused hunts: {sorted(listed(place))}"] * (listed(place) != before)
+    shutil.rmtree(place)
+    return next(iter(differences), None)

@@ -46,7 +46,7 @@ class Outcome:
 def timed_case(chance, seed):
     options = Options(chance.choice([16, 17]), chance.choice([1, 2]), chance.choice([500, 3000]))
     case = TimedCase(Hunted(chance, False).image, options, chance.choice([None, "kept", "folder/", "folder/"]), chance.choice([0, 0, 500]), chance.choice(REFUSED))
-    case.options = replace(options, is_raced=chance.random() < 0.5)
+    case.options = replace(options, is_raced=chance.random() < 0.5, ignores_output=chance.random() < 0.3)
     return case
 
 
@@ -151,9 +151,11 @@ def difference_of_disks(case, kept, found, races, told):
         difference = difference_of_rows(races, one.first, recording.show(Readings())) if case.options.is_raced else None
         if difference:
             return f"races on {path.name}: {difference}"
-        if text_of_outcome(folded, case.options.steps) != one.text or line != line_of_kept(one.first, name, folded.switches, drawn):
-            return f"{line}: model {text_of_outcome(folded, case.options.steps)}, {folded.switches} switches"
-        if (case.options.is_raced or one.text.startswith("exit ")) and said_of(folded) != one.said:
+        text = text_of_outcome(folded, case.options.steps, case.options.ignores_output)
+        if text != one.text or line != line_of_kept(one.first, name, folded.switches, drawn):
+            return f"{line}: model {text}, {folded.switches} switches"
+        is_known = case.options.is_raced or one.text.startswith("exit ") and not case.options.ignores_output
+        if is_known and said_of(folded) != one.said:
             return f"{line}: said by the model {said_of(folded)!r}, told {one.said!r}"
     empty(kept)
     return None

@@ -15,7 +15,7 @@ DIGITS = 8  # of a digest
 SAID = "    said: "
 LINE_BYTES = 200  # of the last line of a run, that are shown
 MOST_OUTCOMES = 64  # of a kind, that have lines of their own
-KINDS = "fault", "deadlock", "exit ", "no end", "waits for input", "exit 0,"  # by what an outcome's text begins with, in the order of a table
+KINDS = "fault", "deadlock", "exit ", "no end", "waits for input", "exit 0"  # by what an outcome's text begins with, in the order of a table
 SEVERAL = 8  # the status where there are several outcomes, or a race
 BAD = 9  # that where all runs had one outcome, which isn't `exit 0`
 AWAITED = {WaitKind.JOIN: "the end of thread {}", WaitKind.LOCK: "mutex {}", WaitKind.RETAKE: "mutex {}", WaitKind.CONDITION: "condition {}",
@@ -98,11 +98,12 @@ def circled(machine):
     return sorted((wait for wait in machine.waits if is_reached(wait.thread)), key=lambda wait: wait.thread)
 
 
-def text_of_outcome(folded, limit):
-    """Of a run that was broken off at so many steps or events, if nothing else came first."""
+def text_of_outcome(folded, limit, ignores_output=False):
+    """Of a run that was broken off at so many steps or events, if nothing else came first. Outcomes that differ in their output alone may be one."""
     machine = folded.machine
     if machine.status is Status.EXITED:
-        return f"exit {machine.status_word}, output {sha256(folded.output).hexdigest()[:DIGITS]}"
+        digits = "" if ignores_output else f", output {sha256(folded.output).hexdigest()[:DIGITS]}"
+        return f"exit {machine.status_word}{digits}"
     if machine.status is Status.FAULTED:
         return f"fault of thread {machine.fault_thread} at {address_text(machine.status_word)}, {CAUSES[Cause(machine.fault_cause)]}"
     if any(map(machine.is_ready, machine.threads)) or any(wait.deadline is not None for wait in machine.waits):
@@ -125,9 +126,10 @@ def lines_of_said(said):
     return [] if said is None else [SAID + said]
 
 
-def known_lines(lines):
-    """Without what was said before anything but an exit: a run that is kept comes to the same, and may put other bytes before."""
-    return [line for above, line in zip(["", *lines], lines) if not line.startswith(SAID) or ": exit " in above]
+def known_lines(lines, ignores_output=False):
+    """Without what was said before anything but an exit: a run that is kept comes to the same, and may put other bytes before. Where no output
+    tells outcomes apart, any may."""
+    return [line for above, line in zip(["", *lines], lines) if not line.startswith(SAID) or ": exit " in above and not ignores_output]
 
 
 @dataclass(frozen=True)
@@ -138,10 +140,12 @@ class Options:
     steps: int
     input: str | None = None  # the path of the file that each run reads
     is_raced: bool = False  # whether each run is looked at for races
+    ignores_output: bool = False  # whether outcomes that differ in their output alone are one
 
     def words(self):
         fed = f" --input {self.input}" if self.input else ""
-        return f"--pages {self.pages} --harts {self.harts} --steps {self.steps}{fed}{' --races' if self.is_raced else ''}"
+        asked = f"{' --races' if self.is_raced else ''}{' --ignore-output' if self.ignores_output else ''}"
+        return f"--pages {self.pages} --harts {self.harts} --steps {self.steps}{fed}{asked}"
 
 
 def command_of(image, seed, options):
@@ -180,7 +184,19 @@ def status_of(outcomes, found=()):
     kinds = {KINDS[kind_of(outcome)] for outcome in outcomes}
     if len(set(outcomes)) > 1 or any(races.pairs for races in found):
         return SEVERAL
-    return 0 if kinds == {"exit 0,"} else BAD
+    return 0 if kinds == {"exit 0"} else BAD
+
+
+def refusal_of_keep(path, folder):
+    """What is said, before the first run, of a path in a folder that is to be kept; None where a disk may be made there. Of a folder the first disk is
+    looked at. That nothing can be made in a folder isn't told by the folder."""
+    disk = path + "outcome-1.disk" if path.endswith("/") else path
+    place = folder / disk
+    if not place.parent.is_dir():
+        return f"the disk {disk}: its folder is missing; make it, or give another path"
+    if place.is_symlink() or place.exists():
+        return f"the disk {disk}: something has this path already; move that away, or give another path"
+    return None
 
 
 def line_of_kept(seed, path, switches, drawn):

@@ -3,6 +3,7 @@
 What schedule a seed draws isn't compared, so here it is that of a drive by lots, but for whom a hart gets: the planned thread, since a hunt's
 turns have no owners. The races of runs are told by a tally that takes one run after the other.
 """
+from dataclasses import replace
 from functools import lru_cache
 
 from cases.glances import Glance
@@ -106,12 +107,12 @@ class Hunts:
     def hunt(self, ckrt, folder, seeds, options, *more):
         data = (folder / options.input).read_bytes() if options.input else None
         disks = {seed: disk_of(seed, options, (folder / "image").read_bytes(), data) for seed in seeds}
-        outcomes = {seed: text_of_outcome(folded(disk), options.steps) for seed, disk in disks.items()}
+        outcomes = {seed: text_of_outcome(folded(disk), options.steps, options.ignores_output) for seed, disk in disks.items()}
         races = self.races(disks, outcomes, options) if options.is_raced else []
         kept = self.keep(folder, more[-1], disks, outcomes) if more else []
         said = {seed: said_of(folded(disk)) for seed, disk in disks.items()}
         lines = self.arranged(lines_of_table("image", outcomes, self.told(options), said), races, kept)
-        is_good = {outcome[:7] for outcome in outcomes.values()} == {"exit 0,"}
+        is_good = {outcome[:6] for outcome in outcomes.values()} == {"exit 0"}
         return 8 if len(set(outcomes.values())) > 1 or self.counts(races) else 0 if is_good else 9, lines
 
     def arranged(self, table, races, kept):
@@ -280,7 +281,7 @@ class WithoutWord(Hunts):
     """The commands of outcomes don't ask for races."""
 
     def told(self, options):
-        return type(options)(options.pages, options.harts, options.steps, options.input)
+        return replace(options, is_raced=False)
 
 
 class RacesFirst(Hunts):
@@ -297,7 +298,7 @@ class Unasked(Hunts):
     """Tells of races always."""
 
     def hunt(self, ckrt, folder, seeds, options, *more):
-        status, lines = super().hunt(ckrt, folder, seeds, type(options)(options.pages, options.harts, options.steps, options.input, True), *more)
+        status, lines = super().hunt(ckrt, folder, seeds, replace(options, is_raced=True), *more)
         return status, lines if options.is_raced else [line.replace(" --races", "") for line in lines]
 
 
@@ -306,7 +307,7 @@ class UnaskedStatus(Hunts):
 
     def hunt(self, ckrt, folder, seeds, options, *more):
         status, lines = super().hunt(ckrt, folder, seeds, options, *more)
-        asked = super().hunt(ckrt, folder, seeds, type(options)(options.pages, options.harts, options.steps, options.input, True))
+        asked = super().hunt(ckrt, folder, seeds, replace(options, is_raced=True))
         return asked[0], lines
 
 

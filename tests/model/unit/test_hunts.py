@@ -1,10 +1,13 @@
 """Hunts: outcomes of small guests by hand, switches, and the table."""
+import tempfile
 import unittest
 from hashlib import sha256
+from pathlib import Path
 
 from model.abi import Call
 from model.events import Eof, Input
-from model.hunts import Options, fold, is_fed, known_lines, line_of_kept, lines_of_table, said_of, status_of, text_of_outcome
+from model.hunts import (Options, fold, is_fed, known_lines, line_of_kept, lines_of_table, refusal_of_keep, said_of, status_of,
+                         text_of_outcome)
 from model.races import Pair, Races
 from model.switches import switched
 from unit.test_races import call, load, locked, recording_of
@@ -34,6 +37,13 @@ class Outcomes(WithKeys):
         self.comes_to("exit 3, output e3b0c442", (1, call(Call.EXIT, 3)))
         digest = sha256(b"AB").hexdigest()[:8]
         self.comes_to(f"exit 0, output {digest}", (2, call(Call.PUTC, 65)), (1, [*call(Call.PUTC, 66), *call(Call.EXIT, 0)]))
+
+    def test_outputs_ignored(self):
+        """No digits of an output are told, whatever was put."""
+        for code in (0, 3, 134):
+            folded = fold(recording_of([(2, call(Call.PUTC, 65)), (1, call(Call.EXIT, code))], threads=1))
+            self.assertEqual(text_of_outcome(folded, 77, True), f"exit {code}")
+        self.assertEqual(text_of_outcome(fold(recording_of([(2, load(1))], threads=1)), 77, True), "fault of thread 2 at 00001028, LoadMisaligned")
 
     def test_faults(self):
         self.comes_to("fault of thread 2 at 00001028, LoadMisaligned", (2, load(1)))
@@ -126,6 +136,7 @@ class Said(WithKeys):
         lines = lines_of_table("a.bin", outcomes, Options(16, 2, 99), {8: "a", 9: "b", 10: "c"})
         self.assertEqual([line[:11] for line in lines], ["outcome 1: ", "    said: c", "    ckrt hu", "outcome 2: ", "    said: a", "    ckrt hu"])
         self.assertEqual([line[:11] for line in known_lines(lines)], ["outcome 1: ", "    ckrt hu", "outcome 2: ", "    said: a", "    ckrt hu"])
+        self.assertEqual([line[:11] for line in known_lines(lines, True)], ["outcome 1: ", "    ckrt hu", "outcome 2: ", "    ckrt hu"])
 
 
 class Tables(unittest.TestCase):
@@ -164,6 +175,19 @@ class Tables(unittest.TestCase):
                          "    ckrt hunt a.bin --seeds 8-8 --pages 16 --harts 2 --steps 99 --input b.txt --races --keep seed-8.disk")
         self.assertEqual(Options(16, 2, 99, is_raced=True).words(), "--pages 16 --harts 2 --steps 99 --races")
 
+    def test_outputs_ignored(self):
+        """Behind the word for races; outcomes have their status alone, and `exit 0` is the last one."""
+        self.assertEqual(Options(16, 2, 99, "b.txt", True, True).words(), "--pages 16 --harts 2 --steps 99 --input b.txt --races --ignore-output")
+        self.assertEqual(Options(16, 2, 99, ignores_output=True).words(), "--pages 16 --harts 2 --steps 99 --ignore-output")
+        outcomes = {1: "exit 0", 2: "exit 134", 3: "exit 0", 4: "waits for input", 5: "exit 10"}
+        told = lines_of_table("a.bin", outcomes, Options(16, 2, 99, ignores_output=True))
+        self.assertEqual([line.partition(": ")[2] for line in told[::2]],
+                         ["1 of 5 runs, first by seed 2: exit 134", "1 of 5 runs, first by seed 5: exit 10", "1 of 5 runs, first by seed 4: waits for input",
+                          "2 of 5 runs, first by seed 1: exit 0"])
+        self.assertEqual(told[1], "    ckrt hunt a.bin --seeds 2-2 --pages 16 --harts 2 --steps 99 --ignore-output --keep seed-2.disk")
+        for statuses, status in ((["exit 0", "exit 0"], 0), (["exit 0", "exit 1"], 8), (["exit 10"], 9)):
+            self.assertEqual(status_of(statuses), status)
+
     def test_status(self):
         """8 where there are several outcomes, or one of the runs raced; 9 where there is one, and not `exit 0`."""
         quiet, raced = Races(False), Races(False)
@@ -174,6 +198,23 @@ class Tables(unittest.TestCase):
                                         ([c, c], [quiet, quiet], 9), ([c, a], [], 8), ([c], [raced], 8), (["exit 1, output 1"], [], 9),
                                         (["fault of thread 1 at 00001000, x"], [], 9), (["no end within 9 steps or events"], [], 9), (["waits for input"], [], 9)]:
             self.assertEqual(status_of(outcomes, found), status, (outcomes, found))
+
+    def test_refused(self):
+        """What is there, also a link that leads to nothing; a folder that is missing, or none. Of a folder the first disk is looked at."""
+        taken, missing = "something has this path already; move that away, or give another path", "its folder is missing; make it, or give another path"
+        with tempfile.TemporaryDirectory() as name:
+            folder = Path(name)
+            (folder / "made").mkdir()
+            (folder / "full").mkdir()
+            for file in ("file", "full/outcome-1.disk", "made/outcome-2.disk"):
+                (folder / file).write_bytes(b"")
+            (folder / "link").symlink_to("nowhere")
+            for path, disk, why in [("file", "file", taken), ("link", "link", taken), ("made", "made", taken), ("full/", "full/outcome-1.disk", taken),
+                                    ("none/", "none/outcome-1.disk", missing), ("none/a", "none/a", missing), ("file/", "file/outcome-1.disk", missing),
+                                    ("file/a", "file/a", missing)]:
+                self.assertEqual(refusal_of_keep(path, folder), f"the disk {disk}: {why}", path)
+            for path in ("free", "made/", "made/outcome-1.disk"):
+                self.assertIsNone(refusal_of_keep(path, folder), path)
 
     def test_kept(self):
         self.assertEqual(line_of_kept(3, "seed-3.disk", 17, 19), "kept: the run of seed 3 on seed-3.disk, switches: 17, drawn with 19")

@@ -1,22 +1,22 @@
 use Rattle.std.proofs.Common.{◌-◌, List, length, take, drop, true≢false, refl, subst, sym}
 use Rattle.ckrt_gdb_history.specs.declared.stop.Watch.{Watch}
 use Rattle.ckrt_gdb_history.specs.Positions.{History}
-use Rattle.ckrt_gdb_history.specs.Stops.{HasChanged}
-use Rattle.ckrt_gdb_playback.specs.Motions.{IsFirstWritten}
+use Rattle.ckrt_gdb_history.specs.Stops.{HasMet}
+use Rattle.ckrt_gdb_playback.specs.Motions.{IsFirstMet}
 use Rattle.ckrt_gdb_playback.proofs.FirstLemmas.{first_among, later_among}
 use Rattle.ckrt_gdb_playback.proofs.motion.+watch_of.Goals as goal
 
--- under the first of them a byte was changed
-pub returns-then-has_changed-clause-first : goal.returns-then-has_changed-clause-first
-returns-then-has_changed-clause-first t c =
+-- the first of them was met
+pub returns-then-has_met-clause-first : goal.returns-then-has_met-clause-first
+returns-then-has_met-clause-first t c =
     let h = c.args.history.now in
-    let changed = subst (λ (vs : List Watch). HasChanged vs h.position h.events h.start) c.only.ensures (c.if-has_changed.ensures.changed.0 refl) in
-    first_among c.args.watches.now _ h.position h.events h.start c.in-len1-up.len_at_least changed
+    let met = subst (λ (vs : List Watch). HasMet vs h.position h.events h.start) c.only.ensures (c.if-has_met.ensures.met.0 refl) in
+    first_among c.args.watches.now _ h.position h.events h.start c.in-len1-up.len_at_least met
 
--- under a later one
+-- a later one was
 pub returns-clause-first : goal.returns-clause-first
 returns-clause-first t c =
     let h = c.args.history.now in
     let ws = c.args.watches.now in
-    let rest = subst (λ (x : History). IsFirstWritten c.watch_of.result (take (length ws - 1) (drop 1 ws)) x.position x.events x.start) c.has_changed.ensures.history c.watch_of.ensures.first in
-    later_among c.watch_of.result ws _ h.position h.events h.start c.in-len1-up.len_at_least (λ changed. true≢false (sym (c.if-has_changed.ensures.changed.1 (subst (λ (vs : List Watch). HasChanged vs h.position h.events h.start) (sym c.only.ensures) changed)))) rest
+    let rest = subst (λ (x : History). IsFirstMet c.watch_of.result (take (length ws - 1) (drop 1 ws)) x.position x.events x.start) c.has_met.ensures.history c.watch_of.ensures.first in
+    later_among c.watch_of.result ws _ h.position h.events h.start c.in-len1-up.len_at_least (λ met. true≢false (sym (c.if-has_met.ensures.met.1 (subst (λ (vs : List Watch). HasMet vs h.position h.events h.start) (sym c.only.ensures) met)))) rest

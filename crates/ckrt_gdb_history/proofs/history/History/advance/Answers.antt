@@ -1,27 +1,24 @@
-use Rattle.std.proofs.Common.{◌≡◌, not, inl, inr, ap, sym, ◌∙◌}
+use Rattle.std.proofs.Common.{◌≡◌, inl, inr, refl, sym, ◌∙◌}
 use Rattle.std.proofs.lemmas.Bool.{false≢true}
-use Rattle.std.proofs.lemmas.Bool.Decides.{Decides-eqb}
-use Rattle.std.proofs.lemmas.Slice.Eq.{slice_eq-Decides}
-use Rattle.ckrt_gdb_history.proofs.SearchLemmas.{changed, unchanged}
+use Rattle.ckrt_gdb_history.specs.Stops.{HasChanged}
+use Rattle.ckrt_gdb_history.proofs.SearchLemmas.{changed, stops_by_access, stops_by_halt, unchanged}
 use Rattle.ckrt_gdb_history.proofs.history.History.advance.Goals as goal
 
-pub returns-then-not-same-clause-stop : goal.returns-then-not-same-clause-stop
-returns-then-not-same-clause-stop c =
-    let xs = c.as_slice.result.now in let ys = c.as_slice-2.result.now in
-    let bytes = c.watched-bytes.result.items in let seen = c.args.seen.now.items in
-    let tells = slice_eq-Decides Decides-eqb xs ys c.eq-same.result c.eq-same.ensures in
-    let other = λ (same : seen ≡ bytes). false≢true (sym c.if-not-same.true ∙ tells.1 (c.as_slice.ensures.value ∙ sym same ∙ sym c.as_slice-2.ensures.value)) in
-    (λ _. inr (changed c.args.stops.now c.args.self.now c.go_past.new.self seen bytes c.go_past.ensures.same c.requires.seen c.watched-bytes.ensures other), λ _. ap not c.if-not-same.true)
-
-pub returns-else-not-same-clause-stop : goal.returns-else-not-same-clause-stop
-returns-else-not-same-clause-stop c =
-    let xs = c.as_slice.result.now in let ys = c.as_slice-2.result.now in
-    let bytes = c.watched-bytes.result.items in let seen = c.args.seen.now.items in
-    let tells = slice_eq-Decides Decides-eqb xs ys c.eq-same.result c.eq-same.ensures in
-    let same : seen ≡ bytes = sym c.as_slice-2.ensures.value ∙ sym (tells.0 c.if-not-same.false) ∙ c.as_slice.ensures.value in (
-      λ halts. inl (sym c.is_halt-else-not-same.ensures ∙ halts),
-      λ stops. (elim stops [
-        | inl halts ↦ c.is_halt-else-not-same.ensures ∙ halts
-        | inr other ↦ absurd (unchanged c.args.stops.now c.args.self.now c.go_past.new.self seen bytes c.go_past.ensures.same c.requires.seen c.watched-bytes.ensures same other)
+pub returns-then-has_accessed-clause-stop : goal.returns-then-has_accessed-clause-stop
+returns-then-has_accessed-clause-stop c =
+    let went = c.go_past-has_accessed in let looked = c.sees_others-has_changed in (
+      λ _. (elim c.then-has_accessed.either [
+        | inl a ↦ stops_by_access c.args.stops.now went.new.self went.result went.ensures.accessed a
+        | inr a ↦ inr (inl (changed c.args.stops.now c.args.self.now went.new.self c.args.seen.now.items looked.new.seen.items went.ensures.same c.requires.seen looked.ensures.seen (looked.ensures.others.0 a.1)))
       ]),
+      λ _. refl,
+    )
+
+pub returns-clause-stop : goal.returns-clause-stop
+returns-clause-stop c =
+    let went = c.go_past-has_accessed in let looked = c.sees_others-has_changed in let new = went.new.self in
+    let never = λ (other : HasChanged c.args.stops.now.watches.items went.new.self.position went.new.self.events went.new.self.start).
+    false≢true (sym c.if-has_changed.false ∙ looked.ensures.others.1 (λ same. unchanged c.args.stops.now c.args.self.now new c.args.seen.now.items looked.new.seen.items went.ensures.same c.requires.seen looked.ensures.seen same other)) in (
+      λ halts. inl (sym c.is_halt.ensures ∙ halts),
+      stops_by_halt c.args.stops.now new went.result c.is_halt.result went.ensures.accessed c.if-has_accessed.false never c.is_halt.ensures,
     )

@@ -1,7 +1,7 @@
 use Rattle.std.proofs.Common.{◌≡◌, ◌-◌, ◌≤◌, ◌++◌}
 use Rattle.ckrt_gdb_history.specs.Search.{seen_from}
 use Rattle.ckrt_gdb_history.specs.Stops.{width}
-use Rattle.ckrt_gdb_history.proofs.reason.see.Given as goal
+use Rattle.ckrt_gdb_history.proofs.reason.see_range.Given as goal
 
 -- what is seen at the addresses before this one
 abbrev pub invariant-loop-address : goal.invariant-loop-address

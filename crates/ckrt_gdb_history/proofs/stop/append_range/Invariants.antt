@@ -1,6 +1,6 @@
 use Rattle.std.proofs.Common.{◌≡◌, ◌-◌, ◌≤◌, ◌++◌}
 use Rattle.ckrt_gdb_history.specs.Stops.{bytes_from, width}
-use Rattle.ckrt_gdb_history.proofs.stop.append_bytes.Given as goal
+use Rattle.ckrt_gdb_history.proofs.stop.append_range.Given as goal
 
 -- the bytes at the addresses before this one
 abbrev pub invariant-loop-address : goal.invariant-loop-address
