@@ -319,6 +319,7 @@ pub record IsAsked (h : Hunting) (asked : Asked) : Type 0 where
   pub may_end : asked.may_end ≡ is_some h.seconds
   pub input : option_map (λ path. path.now) asked.input ≡ h.input
   pub races : asked.races ≡ h.races
+  pub output : asked.shape.ignores_output ≡ h.ignore_output
 
 -- the image and the input were read, and it was hunted: the table and the races were written, and then what is told of a run that was kept
 pub record HuntsImage {D : Type 0} (d : Ghosts D) (it : Hunter D) (old new : Outside D)

@@ -221,6 +221,7 @@ pub fn hunt_path<'a, I: Read + Drop, D: Disk, S: Sources<'a, I, D>, W: Write, O:
     let Some(shape) = Shape::new(job.pages, job.harts, job.steps) else {
         return Err(JobFault::Format(FormatFault::BadConfig));
     };
+    let shape = shape.ignoring_output(job.ignore_output);
     if !is_hunt_in_range(job) {
         return Err(JobFault::Range);
     }
