@@ -44,8 +44,10 @@ impl Shape {
         ensures output { result.ignores_output ≡ ignores_output }
     {
         Shape {
+            pages: self.pages,
+            harts: self.harts,
+            limit: self.limit,
             ignores_output,
-            ..self
         }
     }
 }

@@ -40,7 +40,7 @@ returns g c =
     let in_range : is_hunt_in_range (hunting_of job) ≡ true = search rules in
     record {
       hunts = λ left.
-          inr (inr (inr (inr (record {
+          inr (inr (inr (inr (inr (record {
             guest = guest;
             is_guest = λ bytes told. c.deref.ensures.value ∙ read.bytes bytes told;
             fit = subst (λ k. IsFit k (known job.image.now)) c.config_of-config.ensures read.known;
@@ -53,7 +53,7 @@ returns g c =
             tells = h.2;
             ends = subst (λ o. EndsHunt g.D.Disk (wanted_of it guest input asked) (reached (with_asked_input path o) h.1) (reached new written) h.0 c.hunt_image.result) read.opened behind;
             unread = refl;
-          }))));
+          })))));
     }
 
 -- the image was read, and the input wasn't
@@ -69,12 +69,12 @@ returns-in_err-input g c =
     let told : c.from_residual-in_err-input.result ≡ Err why = search rules in
     record {
       hunts = λ left.
-          inr (inr (inr (inl (record {
+          inr (inr (inr (inr (inl (record {
             why = why;
             is = told;
             fit = subst (λ k. IsFit k (known job.image.now)) c.config_of-config.ensures read.known;
             unread_input = subst (λ o. EndsOnAskedInput known path o new why) read.opened (ends_before known (g.S.Sources.image_bytes first) read.same.images path (g.S.Closes.openings first) new why c.in_err-input.ensures.unfit);
             unwritten = refl;
             unread = refl;
-          }))));
+          })))));
     }
