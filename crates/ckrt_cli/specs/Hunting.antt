@@ -26,6 +26,9 @@ use Rattle.ckrt_hunt_races.specs.Hunts.{IsHuntedWith, told_text, verdict_on}
 use Rattle.ckrt_hunt_races.specs.declared.telling.HuntTold.{HuntTold}
 use Rattle.ckrt_cli_words.specs.Jobs.{Hunting}
 use Rattle.ckrt_cli_files.specs.Openings.{Openings, opened, with_image}
+use Rattle.ckrt_cli_files.specs.declared.file.FileFault.{FileFault}
+use Rattle.ckrt_cli_files.specs.declared.file.JobFile.{JobFile}
+use Rattle.ckrt_cli_files.specs.declared.file.JobFile.TheVariants as file
 use Rattle.ckrt_cli_faults.specs.Outside.{Outside}
 use Rattle.ckrt_cli_faults.specs.Ranges.{is_hunt_in_range}
 use Rattle.ckrt_cli_faults.specs.declared.fault.JobFault.{JobFault}
@@ -290,6 +293,21 @@ RefusesRange it old new result =
     ((is_hunt_in_range it.asked ≡ false) ⊎ (asked_seeds it.asked ≡ None))
     × (result ≡ Err job.Range) × (new ≡ old)
 
+-- what a path is to a hunt that looks at it before it begins
+abbrev pub kept_file : (path : List ℕ) → JobFile
+kept_file path = if is_folder path then file.FirstKept else file.Kept
+
+-- no disk can be made at the path where one is to be kept
+abbrev pub IsUnkeepable : Option (List ℕ) → JobFault → Type 0
+IsUnkeepable None f = ⊥
+IsUnkeepable (Some path) f = (why : FileFault) × (f ≡ job.File (kept_file path) why)
+
+-- so nothing was opened
+abbrev pub RefusesKeep : {D : Type 0} → Hunter D → (old new : Outside D)
+    → Result Verdict JobFault → Type 0
+RefusesKeep it old new result =
+    (why : JobFault) × IsUnkeepable it.asked.keep why × (result ≡ Err why) × (new ≡ old)
+
 -- the image is unfit
 pub record LacksImage {D : Type 0} (it : Hunter D) (old new : Outside D)
     (result : Result Verdict JobFault) : Type 0 where
@@ -319,6 +337,7 @@ pub record IsAsked (h : Hunting) (asked : Asked) : Type 0 where
   pub may_end : asked.may_end ≡ is_some h.seconds
   pub input : option_map (λ path. path.now) asked.input ≡ h.input
   pub races : asked.races ≡ h.races
+  pub output : asked.shape.ignores_output ≡ h.ignore_output
 
 -- the image and the input were read, and it was hunted: the table and the races were written, and then what is told of a run that was kept
 pub record HuntsImage {D : Type 0} (d : Ghosts D) (it : Hunter D) (old new : Outside D)
@@ -341,4 +360,5 @@ pub record HuntsImage {D : Type 0} (d : Ghosts D) (it : Hunter D) (old new : Out
 abbrev pub HuntsPath : {D : Type 0} → Ghosts D → Hunter D → (old new : Outside D)
     → Result Verdict JobFault → Type 0
 HuntsPath d it old new result =
-    RefusesSizes it old new result ⊎ RefusesRange it old new result ⊎ LacksImage it old new result ⊎ LacksInput it old new result ⊎ HuntsImage d it old new result
+    RefusesSizes it old new result ⊎ RefusesRange it old new result ⊎ RefusesKeep it old new result
+    ⊎ LacksImage it old new result ⊎ LacksInput it old new result ⊎ HuntsImage d it old new result

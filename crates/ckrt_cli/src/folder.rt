@@ -26,7 +26,11 @@ pub(crate) fn is_folder(path: &str) -> bool
 }
 
 /// The path of the disk of an outcome in a folder. It stays as long as the program runs, as its words do.
-fn outcome_path<'a>(alloc: Global, folder: &str, number: usize) -> Result<&'a str, AllocError>
+pub(crate) fn outcome_path<'a>(
+    alloc: Global,
+    folder: &str,
+    number: usize,
+) -> Result<&'a str, AllocError>
     ensures { IfOk result (λ path. path.now ≡ outcome_path folder.now number) }
 {
     let path = format!(in alloc; "{}outcome-{}.disk", folder, number)?;

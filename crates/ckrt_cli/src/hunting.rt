@@ -1,19 +1,19 @@
 //! The hunt of the image of a path.
-ghost use Rattle.std.specs.Prelude.{◌≡◌, ℕ, List, Option, Result, option_map, true};
+ghost use Rattle.std.specs.Prelude.{◌≡◌, ℕ, List, Option, Result, IfErr, option_map, true};
 ghost use Rattle.ckrt_hunt_schedules.specs.Seeds.{ends_of};
 ghost use Rattle.ckrt_checkpoint.specs.Layout.{is_valid};
 ghost use Rattle.ckrt_hunt_schedules.specs.Tallies.{hunted_of};
 ghost use Rattle.ckrt_hunt_schedules.specs.Turns.{bytes_of};
 ghost use Rattle.ckrt_cli_words.specs.Jobs.{hunting_of};
 ghost use Rattle.ckrt_cli_faults.specs.Outside.{outside};
-ghost use Rattle.ckrt_cli.specs.Hunting.{EndsHunt, HuntsPath, KeepsAt, Tells, answer_of, asked_seeds, config_of, fault_of, kept_size, place_of, reached, sought_in, wanted_of};
+ghost use Rattle.ckrt_cli.specs.Hunting.{EndsHunt, HuntsPath, IsUnkeepable, KeepsAt, Tells, answer_of, asked_seeds, config_of, fault_of, kept_file, kept_size, place_of, reached, sought_in, wanted_of};
 
-use crate::folder::{is_folder, keep_in_folder};
+use crate::folder::{is_folder, keep_in_folder, outcome_path};
 use crate::found::{KeptAt, ToldHunt, keep_first};
 use crate::input::asked_input;
 use ckrt_cli_disk::fitting_image;
 use ckrt_cli_faults::{JobFault, is_hunt_in_range};
-use ckrt_cli_files::Sources;
+use ckrt_cli_files::{FileFault, JobFile, Sources};
 use ckrt_cli_words::HuntJob;
 use ckrt_disk::Disk;
 use ckrt_hunt_races::{HuntTold, hunt_as_asked};
@@ -88,6 +88,49 @@ fn answer_of(kept: Result<(), JobFault>, verdict: Verdict) -> Result<Verdict, Jo
     match kept {
         Ok(()) => Ok(verdict),
         Err(fault) => Err(fault),
+    }
+}
+
+/// What the path of the words is to a hunt that looks at it before it begins.
+fn kept_file(path: &str) -> JobFile
+    ensures { result ≡ kept_file path.now }
+{
+    if is_folder(path) {
+        JobFile::FirstKept
+    } else {
+        JobFile::Kept
+    }
+}
+
+/// That a disk can be made for the path of the words: in a folder the first one.
+fn look_at_path<'a, I: Read, D: Disk, S: Sources<'a, I, D>>(
+    alloc: Global,
+    path: &str,
+    sources: &S,
+) -> Result<(), FileFault> {
+    if !is_folder(path) {
+        return sources.look_at_place(alloc, path);
+    }
+    match outcome_path(alloc, path, 1) {
+        Ok(first) => sources.look_at_place(alloc, first),
+        Err(_) => Err(FileFault::OutOfMemory),
+    }
+}
+
+/// That a disk can be made where the words ask for one.
+fn look_at_keep<'a, I: Read, D: Disk, S: Sources<'a, I, D>>(
+    alloc: Global,
+    keep: Option<&str>,
+    sources: &S,
+) -> Result<(), JobFault>
+    ensures { IfErr result (IsUnkeepable (option_map (λ path. path.now) keep.entry)) }
+{
+    let Some(path) = keep else {
+        return Ok(());
+    };
+    match look_at_path::<I, D, S>(alloc, path, sources) {
+        Ok(()) => Ok(()),
+        Err(fault) => Err(JobFault::File(kept_file(path), fault)),
     }
 }
 
@@ -194,7 +237,8 @@ fn hunt_image<'a, I: Read, D: Disk, S: Sources<'a, I, D>, W: Write, O: HuntOnloo
 /// # Errors
 ///
 /// The first that applies: `BadConfig` where pages or harts are out of their ranges; `Range` where seconds are, where there are seeds
-/// beside seconds, or where the text of the seeds isn't a range; `File` and `OutOfMemory` of the image, `File` also where it is an ELF
+/// beside seconds, or where the text of the seeds isn't a range; `File` where no disk can be made at the path where one is to be kept, in a
+/// folder the first one; `File` and `OutOfMemory` of the image, `File` also where it is an ELF
 /// file; `ImageTooLong`; of the input `File`, `OutOfMemory`, and `InputTooLong` where it has more than 1,048,576 bytes; `OutOfMemory` of
 /// the hunt; `Serve` where the writer failed; of the disk `OutOfMemory` of the search for a schedule, `File`, what formatting and recovery
 /// answer, `RunTooLong`, and `Serve` where the writer failed once the disk had its name.
@@ -221,12 +265,14 @@ pub fn hunt_path<'a, I: Read + Drop, D: Disk, S: Sources<'a, I, D>, W: Write, O:
     let Some(shape) = Shape::new(job.pages, job.harts, job.steps) else {
         return Err(JobFault::Format(FormatFault::BadConfig));
     };
+    let shape = shape.ignoring_output(job.ignore_output);
     if !is_hunt_in_range(job) {
         return Err(JobFault::Range);
     }
     let Some(seeds) = seeds_for(job) else {
         return Err(JobFault::Range);
     };
+    look_at_keep::<I, D, S>(alloc, job.keep, sources)?;
     let image = fitting_image::<I, D, S>(alloc, sources, job.image, config)?;
     let input = asked_input::<I, D, S>(alloc, sources, job.input)?;
     let given = input_over(&input);

@@ -21,6 +21,10 @@ pub enum JobFile {
     Making,
     /// The core.
     Core,
+    /// The disk that a run of a hunt is to be kept on.
+    Kept,
+    /// The first disk of the folder that runs of a hunt are to be kept in.
+    FirstKept,
 }
 
 /// Why a file can't be opened, read, locked or filled.
@@ -72,6 +76,10 @@ pub enum FileFault {
     Unwritten,
     /// Something has got the path that was free.
     IsThere,
+    /// Something has the path of a disk that is to be made.
+    IsTaken,
+    /// No file may be made in the folder of a disk that is to be made.
+    NotWritable,
     /// The system refused memory.
     OutOfMemory,
     /// A standard stream is closed, and the file got its descriptor.
@@ -104,6 +112,9 @@ impl<'a> FileOpening<'a> {
 /// What stands after a disk's path in that of the disk in the making.
 pub(crate) const MAKING: &str = ".making";
 
+/// What stands after a folder's path in that of its first disk.
+const FIRST_KEPT: &str = "outcome-1.disk";
+
 impl JobFile {
     /// What the file is to its job.
     pub fn text(self) -> &'static str {
@@ -114,6 +125,7 @@ impl JobFile {
             JobFile::Output => "the output ",
             JobFile::Making => "the disk in the making ",
             JobFile::Core => "the core ",
+            JobFile::Kept | JobFile::FirstKept => "the disk ",
         }
     }
 
@@ -121,7 +133,13 @@ impl JobFile {
     pub fn ending(self) -> &'static str {
         match self {
             JobFile::Making => MAKING,
-            JobFile::Image | JobFile::Disk | JobFile::Input | JobFile::Output | JobFile::Core => "",
+            JobFile::FirstKept => FIRST_KEPT,
+            JobFile::Image
+            | JobFile::Disk
+            | JobFile::Input
+            | JobFile::Output
+            | JobFile::Core
+            | JobFile::Kept => "",
         }
     }
 }
@@ -131,7 +149,7 @@ impl FileFault {
     pub fn text(self) -> &'static str {
         match self {
             FileFault::NotFound => "there is no such file",
-            FileFault::NoFolder => "its folder is missing",
+            FileFault::NoFolder => "its folder is missing; make it, or give another path",
             FileFault::IsImage => "the image has this path too",
             FileFault::IsElf =>
                 "it is an ELF file: guest/image, or objcopy -O binary, makes an image of it",
@@ -165,6 +183,10 @@ impl FileFault {
                 "a write or sync of it failed; look after its device, then give the command again",
             FileFault::IsThere =>
                 "something has the disk's path meanwhile; look at it, then give the command again",
+            FileFault::IsTaken =>
+                "something has this path already; move that away, or give another path",
+            FileFault::NotWritable =>
+                "no file can be made in its folder; see to its permissions, or give another path",
             FileFault::OutOfMemory => "the system refused memory",
             FileFault::StreamClosed => "a standard stream is closed",
             FileFault::Other => "it can't be opened, read or filled",

@@ -274,6 +274,45 @@ fn is_taken<R: Files>(rt: &R, path: &str) -> Result<bool, FileFault> {
     }
 }
 
+/// That the folder of a path is there.
+fn has_folder<R: Files>(rt: &R, path: &str) -> Result<(), FileFault> {
+    match rt.metadata(folder_of(path)) {
+        Ok(told) if told.is_dir() => Ok(()),
+        Ok(_) => Err(FileFault::NoFolder),
+        Err(error) => match FileFault::from(error) {
+            FileFault::NotFound => Err(FileFault::NoFolder),
+            fault => Err(fault),
+        },
+    }
+}
+
+/// That a file of this name can be made: one is, and goes again. What has the name already stays as it is.
+fn try_to_make<R: Files<File = File>>(rt: &R, name: &str) -> Result<(), FileFault> {
+    match open_locked(rt, name, Taken::Made) {
+        Ok(file) => {
+            remove(rt, name);
+            drop(file);
+            Ok(())
+        }
+        Err(FileFault::IsThere) => Ok(()),
+        Err(FileFault::PermissionDenied) => Err(FileFault::NotWritable),
+        Err(fault) => Err(fault),
+    }
+}
+
+/// That a disk can be made for a path, beside it by this name: the folder is there and takes a file, and nothing has the path.
+pub(crate) fn look_at_place<R: Files<File = File>>(
+    rt: &R,
+    path: &str,
+    name: &str,
+) -> Result<(), FileFault> {
+    has_folder(rt, path)?;
+    if is_taken(rt, path)? {
+        return Err(FileFault::IsTaken);
+    }
+    try_to_make(rt, name)
+}
+
 /// Whether a file is a disk in the making, as one that was cut may have left it.
 fn is_in_making(alloc: Global, file: &File) -> Result<bool, FileFault> {
     let told = file.metadata()?;

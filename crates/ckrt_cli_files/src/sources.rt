@@ -129,6 +129,10 @@ pub trait Sources<'a, I: Read, D: Disk>: Closes<D> {
             ≡ with_input (Self.openings self.old) (opening_of path.now result) }
         ensures same { GivesNoMore (gives self.old) (gives self.new) };
 
+    /// That a disk can be made for a path, as far as it can be seen before: its folder is there and takes a file, and nothing has the path.
+    /// To see that, a file is made beside it and removed; what is there stays as it is. Of files no clause can say this.
+    fn look_at_place(&self, alloc: Global, path: &str) -> Result<(), FileFault>;
+
     /// Why the last call of an output that failed did so, where nothing else was asked for meanwhile. Of what was opened no clause can
     /// say this.
     fn last_reason(&self) -> OutputReason;

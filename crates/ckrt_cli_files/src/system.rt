@@ -7,8 +7,8 @@ ghost use Rattle.ckrt_cli_files.specs.Real.{IsDiskOf, IsFilledOf, IsOpenedAs, Is
 use crate::core_paths::{open_core_file, replace_core};
 use crate::file::{FileFault, FileOpening};
 use crate::files::{
-    beside, disk_of, give_name, longer_disk, open_disk_file, open_filled_file, open_making_file,
-    open_read, open_shared, open_system_input, open_system_output, remove,
+    beside, disk_of, give_name, longer_disk, look_at_place, open_disk_file, open_filled_file,
+    open_making_file, open_read, open_shared, open_system_input, open_system_output, remove,
 };
 use crate::identity::{FileId, leads_to};
 use crate::output::OpenedOutput;
@@ -429,6 +429,11 @@ impl<'a, R: Files<File = File>, H: Holds> Sources<'a, File, RealDisk<'a, H>>
         let opened = self.open_input_file(path);
         self.input = self.input.with(&FileOpening::of(path, &opened));
         opened
+    }
+
+    fn look_at_place(&self, alloc: Global, path: &str) -> Result<(), FileFault> {
+        let name = beside(alloc, path)?;
+        look_at_place(self.rt, path, &name)
     }
 
     fn last_reason(&self) -> OutputReason {

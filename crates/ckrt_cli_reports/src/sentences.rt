@@ -215,6 +215,7 @@ fn path<'a>(job: &Job<'a>, file: JobFile) -> &'a str {
         (Job::Hunt(job), JobFile::Image) => job.image,
         (Job::Hunt(job), JobFile::Disk) => job.keep.unwrap_or(""),
         (Job::Hunt(job), JobFile::Making) => job.keep.unwrap_or(""),
+        (Job::Hunt(job), JobFile::Kept | JobFile::FirstKept) => job.keep.unwrap_or(""),
         (Job::Hunt(job), JobFile::Input) => job.input.unwrap_or(""),
         _ => "",
     }

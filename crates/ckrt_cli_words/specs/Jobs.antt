@@ -66,7 +66,7 @@ pub record Profiling : Type 0 where
   pub form : ProfileForm
 
 -- what `hunt` runs: the image, the text of its range of seeds, or after how many seconds it takes no further seed, the sizes, the file of each
--- run's input, how many steps a run has at most, whether each is looked at for races, the new disk or the folder that runs are kept on, and at most each how many seconds it tells how far it is
+-- run's input, how many steps a run has at most, whether each is looked at for races, whether outcomes that differ in their output alone are one, the new disk or the folder that runs are kept on, and at most each how many seconds it tells how far it is
 pub record Hunting : Type 0 where
   pub image : Text
   pub seeds : Option Text
@@ -76,6 +76,7 @@ pub record Hunting : Type 0 where
   pub input : Option Text
   pub steps : ℕ
   pub races : Bool
+  pub ignore_output : Bool
   pub keep : Option Text
   pub progress : Option ℕ
 
@@ -151,6 +152,7 @@ hunting_of h = record {
   input = option_map (λ path. path.now) h.input;
   steps = h.steps;
   races = h.races;
+  ignore_output = h.ignore_output;
   keep = option_map (λ path. path.now) h.keep;
   progress = h.progress;
 }
@@ -286,6 +288,7 @@ hunting_in rows = do
     input = first_of (codes "input") rows;
     steps = steps;
     races = flag_in (codes "races") rows;
+    ignore_output = flag_in (codes "ignore-output") rows;
     keep = first_of (codes "keep") rows;
     progress = place_in (codes "progress") rows;
   })

@@ -380,7 +380,7 @@ fn profile_arguments<'a>(alloc: Global) -> Result<Vec<Arg<'a>>, AllocError>
     Ok(arguments)
 }
 
-/// `hunt IMAGE` with its options: which seeds, on what machine, with what input, how long a run is, whether it is looked at for races, where runs are kept, how often it tells how far it is, and where names are.
+/// `hunt IMAGE` with its options: which seeds, on what machine, with what input, how long a run is, whether it is looked at for races, whether outputs tell outcomes apart, where runs are kept, how often it tells how far it is, and where names are.
 fn hunt_command<'a>(alloc: Global) -> Result<Command<'a>, AllocError>
     ensures app { IfOk result (λ c. app_of c ≡ hunt_app) }
     ensures local { IfOk result (λ c. (out-Command c).has_globals ≡ false) }
@@ -441,6 +441,11 @@ fn hunt_arguments<'a>(alloc: Global) -> Result<Vec<Arg<'a>>, AllocError>
             alloc,
             "races",
             "Tell which accesses of two threads raced in some run, and in how many"
+        ),
+        flag(
+            alloc,
+            "ignore-output",
+            "Count outcomes that differ in their output alone as one"
         ),
         option(
             alloc,

@@ -141,6 +141,8 @@ pub struct HuntJob<'a> {
     pub steps: u32,
     /// Whether each run is looked at for races too.
     pub races: bool,
+    /// Whether outcomes that differ in their output alone are one.
+    pub ignore_output: bool,
     /// The path of the disk that is made for the run of the first seed, or, with a `/` at its end, of the folder in which each outcome
     /// gets a disk; this isn't given where none is kept.
     pub keep: Option<&'a str>,

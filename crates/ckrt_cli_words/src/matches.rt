@@ -134,6 +134,7 @@ fn hunting<'a>(matches: &ArgMatches<'a>) -> Option<HuntJob<'a>>
         input,
         steps: number(matches, "steps")?,
         races: flag(matches, "races"),
+        ignore_output: flag(matches, "ignore-output"),
         keep,
         progress,
     })

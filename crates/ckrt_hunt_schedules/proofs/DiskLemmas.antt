@@ -144,7 +144,7 @@ module _ {D : Type 0} {g : Ghosts D} where
       let outcome : told.outcome ≡ outcome_of ending (state_after program has.events).tables = c.outcome ∙ ap (λ (es : List Event). outcome_of c.ending (fold es start).state.tables) es ∙ ap (λ (e : ScheduleEnd). outcome_of e (state_after program has.events).tables) same in
       record {
         outcome = outcome;
-        digest = c.digest ∙ ap (λ (es : List Event). digest_of told.outcome (output_of es start)) es;
+        digest = c.digest ∙ ap (λ (es : List Event). digest_of p.ignores_output told.outcome (output_of es start)) es;
         recovered = λ image may r recovers. (let to = (has.left image may).1 in
             let is : r ≡ to.recovered = same_recovered r to.recovered (recovers_once image (Ok r) (Ok to.recovered) recovers to.recovers) in
             outcome ∙ ap (λ (s : State). outcome_of ending s.tables) (sym (ap (λ (r : Recovered). r.state) is ∙ to.has_events.state)));

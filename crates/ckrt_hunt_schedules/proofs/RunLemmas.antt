@@ -61,7 +61,7 @@ module _ (p : Plan) where
   }
 
   -- a run that has come to its end
-  pub comes_to : (start : State) (m : Made) (s : State) (heard : Heard) (ending : ScheduleEnd) (told : Told) → HasComeTo p start m s heard → next p m s.tables ≡ End ending → told.outcome ≡ outcome_of ending s.tables → ((o : List ℕ) → Hears heard o → told.digest ≡ digest_of told.outcome o) → ComesTo p start told
+  pub comes_to : (start : State) (m : Made) (s : State) (heard : Heard) (ending : ScheduleEnd) (told : Told) → HasComeTo p start m s heard → next p m s.tables ≡ End ending → told.outcome ≡ outcome_of ending s.tables → ((o : List ℕ) → Hears heard o → told.digest ≡ digest_of p.ignores_output told.outcome o) → ComesTo p start told
   comes_to start m s heard ending told h n o d =
       let es = h.events in
       let c = h.come in
@@ -76,7 +76,7 @@ module _ (p : Plan) where
       }
 
   -- what it has made by then, and the last line that it has put
-  pub ends_with : (start : State) (m : Made) (s : State) (heard : Heard) (ending : ScheduleEnd) (run : Finished) → HasComeTo p start m s heard → next p m s.tables ≡ End ending → run.told.outcome ≡ outcome_of ending s.tables → ((o : List ℕ) → Hears heard o → run.told.digest ≡ digest_of run.told.outcome o) → run.made ≡ m → ((o : List ℕ) → Hears heard o → run.said ≡ last_line o) → EndsWith p start run
+  pub ends_with : (start : State) (m : Made) (s : State) (heard : Heard) (ending : ScheduleEnd) (run : Finished) → HasComeTo p start m s heard → next p m s.tables ≡ End ending → run.told.outcome ≡ outcome_of ending s.tables → ((o : List ℕ) → Hears heard o → run.told.digest ≡ digest_of p.ignores_output run.told.outcome o) → run.made ≡ m → ((o : List ℕ) → Hears heard o → run.said ≡ last_line o) → EndsWith p start run
   unfolding comes_to
   ends_with start m s heard ending run h n o d made said = record {
     comes = comes_to start m s heard ending run.told h n o d;
@@ -100,5 +100,5 @@ module _ (p : Plan) where
       let es : c.events ≡ d.events = same_events c.events d.events (beginning start) c.ending d.ending c.scheduled c.ended d.scheduled d.ended in
       let ends : End c.ending ≡ End d.ending = sym c.ended ∙ ap (λ (es : List Event). next_at p (behind p es (beginning start))) es ∙ d.ended in
       let outcome : a.outcome ≡ b.outcome = c.outcome ∙ (cc) ∙ sym d.outcome in
-      let digest : a.digest ≡ b.digest = c.digest ∙ ap (λ (es : List Event). digest_of a.outcome (output_of es start)) es ∙ ap (λ (o : Outcome). digest_of o (output_of d.events start)) outcome ∙ sym d.digest in
+      let digest : a.digest ≡ b.digest = c.digest ∙ ap (λ (es : List Event). digest_of p.ignores_output a.outcome (output_of es start)) es ∙ ap (λ (o : Outcome). digest_of p.ignores_output o (output_of d.events start)) outcome ∙ sym d.digest in
       ap (λ (o : Outcome). let t : Told = record { outcome = o; digest = a.digest } in t) outcome ∙ ap (λ (g : Option (List ℕ)). let t : Told = record { outcome = b.outcome; digest = g } in t) digest

@@ -105,6 +105,6 @@ IsOverReason p old new (fault.Keep f) = KeepsRun p old new (Err f)
 pub record IsToldOf {D : Type 0} {d : Ghosts D} {program : Program} {p : Plan} {disk : D} {ending : ScheduleEnd}
     (has : HasRun d program p disk ending) (told : Told) : Type 0 where
   pub outcome : told.outcome ≡ outcome_of ending (state_after program has.events).tables
-  pub digest : told.digest ≡ digest_of told.outcome (output_after program has.events)
+  pub digest : told.digest ≡ digest_of p.ignores_output told.outcome (output_after program has.events)
   pub recovered : (image : List ℕ) → MayBeLeft d disk image → (r : Recovered) → Recovers image (Ok r)
       → told.outcome ≡ outcome_of ending r.state.tables

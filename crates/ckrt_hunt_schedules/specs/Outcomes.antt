@@ -1,5 +1,5 @@
 -- What a run comes to (this project's choice).
-use Rattle.std.specs.Prelude.{ℕ, zero, suc, ◌==◌, Bool, false, ◌||◌, if◌then◌else◌, Option, Some, None, List, [], ◌∷◌, ◌++◌}
+use Rattle.std.specs.Prelude.{ℕ, zero, suc, ◌==◌, Bool, true, false, ◌||◌, if◌then◌else◌, Option, Some, None, List, [], ◌∷◌, ◌++◌}
 use Rattle.std.specs.List.{find}
 use Rattle.sha2.specs.Sha256.{sha256}
 use Rattle.ckrt_objects.specs.declared.address_map.Entry.{Entry}
@@ -113,10 +113,11 @@ outcome_of ending.WaitsForInput s = outcome.WaitsForInput
 outcome_of ending.Deadlock s = outcome.Deadlock (record { items = waiting_among s 64 })
 outcome_of ending.Enough s = no_end s
 
--- the digest of its output, where the program exited: two runs with one status and two outputs come to two things
-abbrev pub digest_of : Outcome → (output : List ℕ) → Option (List ℕ)
-digest_of (outcome.Exited status) output = Some (sha256 output)
-digest_of (outcome.Faulted t pc c) output = None
-digest_of (outcome.Deadlock waiting) output = None
-digest_of outcome.WaitsForInput output = None
-digest_of (outcome.NoEnd circle) output = None
+-- the digest of its output, where the program exited: two runs with one status and two outputs come to two things, unless outputs are ignored
+abbrev pub digest_of : (ignores_output : Bool) → Outcome → (output : List ℕ) → Option (List ℕ)
+digest_of true o output = None
+digest_of false (outcome.Exited status) output = Some (sha256 output)
+digest_of false (outcome.Faulted t pc c) output = None
+digest_of false (outcome.Deadlock waiting) output = None
+digest_of false outcome.WaitsForInput output = None
+digest_of false (outcome.NoEnd circle) output = None

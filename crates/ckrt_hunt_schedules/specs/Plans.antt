@@ -46,6 +46,7 @@ plan_with limit seed k first second third = record {
   is_early = is_early seed;
   turns = None;
   input = no_input;
+  ignores_output = false;
 }
 
 abbrev pub by_priorities : (limit seed k : ℕ) → Plan

@@ -69,7 +69,7 @@ pub record ComesTo (p : Plan) (start : State) (told : Told) : Type 0 where
   pub ended : next_at p (behind p events (beginning start)) ≡ End ending
   pub accepted : AllAccepted events start
   pub outcome : told.outcome ≡ outcome_of ending (fold events start).state.tables
-  pub digest : told.digest ≡ digest_of told.outcome (output_of events start)
+  pub digest : told.digest ≡ digest_of p.ignores_output told.outcome (output_of events start)
 
 -- the same, what the run has made then, and the last line that it has put
 pub record EndsWith (p : Plan) (start : State) (run : Finished) : Type 0 where

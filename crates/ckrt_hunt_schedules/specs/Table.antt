@@ -122,10 +122,15 @@ input_text a = input_path_text (option_map (λ path. path.now) a.input)
 abbrev pub races_word : Bool → List ℕ
 races_word races = if races then codes " --races" else []
 
+-- that outcomes which differ in their output alone are one, where they are
+abbrev pub ignored_word : Bool → List ℕ
+ignored_word ignores_output = if ignores_output then codes " --ignore-output" else []
+
 abbrev pub command_line : Asked → (seed : ℕ) → List ℕ
 command_line a seed =
     codes "    ckrt hunt " ++ a.image.now ++ seed_text seed ++ shape_text a.shape ++ input_text a
     ++ races_word a.races
+    ++ ignored_word a.shape.ignores_output
     ++ (codes " --keep seed-" ++ decimal seed)
     ++ codes ".disk\n"
 

@@ -1,6 +1,6 @@
 -- What seeds came to, counted (this project's choice): each outcome once, with how often it came, and the first seed that came to it. Each kind of
 -- outcomes has rows of its own.
-use Rattle.std.specs.Prelude.{◌≡◌, ◌≢◌, ◌≤◌, ◌<◌, ◌⊎◌, ℕ, zero, suc, ◌+◌, ◌-◌, ◌&&◌, nat_le, min, if◌then◌else◌, Option, Some, None, List, [], ◌∷◌, ◌++◌, length, slice_get, slice_set, vec_len}
+use Rattle.std.specs.Prelude.{◌≡◌, ◌≢◌, ◌≤◌, ◌<◌, ◌⊎◌, ℕ, zero, suc, ◌+◌, ◌-◌, ◌&&◌, Bool, nat_le, min, if◌then◌else◌, Option, Some, None, List, [], ◌∷◌, ◌++◌, length, slice_get, slice_set, vec_len}
 use Rattle.ckrt_memory.specs.Marks.{Memory}
 use Rattle.ckrt_state.specs.declared.table.Tables.{Tables}
 use Rattle.ckrt_machine.specs.Events.{fresh}
@@ -140,15 +140,18 @@ shape_of pages harts limit =
     if nat_le 16 pages && (nat_le pages 1024 && (nat_le 1 harts && nat_le harts 8)) then Some (pages, harts, limit)
     else None
 
--- a program that is hunted: how many steps and events a run has at most, the state that each begins with, and what it is given to read
+-- a program that is hunted: how many steps and events a run has at most, the state that each begins with, what it is given to read, and
+-- whether outcomes that differ in their output alone are one
 pub record Hunted : Type 0 where
   pub limit : ℕ
   pub start : State
   pub input : Input
+  pub ignores_output : Bool
 
 -- the plan of a seed
 abbrev pub plan_in : Hunted → (seed : ℕ) → Plan
-plan_in h seed = record (plan_of h.limit seed) { input = h.input }
+plan_in h seed =
+    record (plan_of h.limit seed) { input = h.input; ignores_output = h.ignores_output }
 
 -- a memory and tables have the room for a state, which has a hart at least
 pub record IsRoomFor (s : State) (memory : Memory) (tables : Tables) : Type 0 where
@@ -187,7 +190,12 @@ pub record IsTallyOf (h : Hunted) (seeds : Seeds) (outcomes : Outcomes) : Type 0
 
 -- the program with this image, as it is run with a shape and an input
 abbrev pub hunted_of : (image : List ℕ) → Shape → Input → Hunted
-hunted_of image s input = record { limit = s.limit; start = fresh s.pages s.harts image; input = input }
+hunted_of image s input = record {
+  limit = s.limit;
+  start = fresh s.pages s.harts image;
+  input = input;
+  ignores_output = s.ignores_output;
+}
 
 -- the program with this image and this input was hunted as it was asked for: by the first seeds of its range, or by all of them
 pub record IsHunted (image : List ℕ) (input : Input) (asked : Asked) (done : HuntDone) : Type 0 where

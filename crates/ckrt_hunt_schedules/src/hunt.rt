@@ -24,6 +24,8 @@ pub struct Hunt<'i> {
     limit: u32,
     /// What each run is given to read.
     input: Input<'i>,
+    /// Whether outcomes that differ in their output alone are one.
+    ignores_output: bool,
     /// At the beginning of the program, between two runs.
     machine: Machine,
     /// The room for the beginning of the run after the next one.
@@ -36,7 +38,12 @@ impl<'i> Model for Hunt<'i> {
 
     ghost Value = { Hunted };
 
-    ghost view = { λ h. record { limit = h.limit; start = h.machine.state; input = h.input } };
+    ghost view = { λ h. record {
+      limit = h.limit;
+      start = h.machine.state;
+      input = h.input;
+      ignores_output = h.ignores_output;
+    } };
 
     ghost invariant = { λ h. IsRoomFor h.machine.state h.memory h.tables };
 }
@@ -66,6 +73,7 @@ impl<'i> Hunt<'i> {
         Ok(Hunt {
             limit: shape.limit,
             input,
+            ignores_output: shape.ignores_output,
             machine,
             memory,
             tables,
@@ -76,7 +84,9 @@ impl<'i> Hunt<'i> {
     pub fn plan_of(&self, seed: u64) -> Plan<'i>
         ensures { result ≡ plan_in self.now seed }
     {
-        Plan::new(self.limit, seed).with_input(self.input)
+        Plan::new(self.limit, seed)
+            .with_input(self.input)
+            .ignoring_output(self.ignores_output)
     }
 
     /// What a run by a plan comes to. It takes no memory, and the hunt is as it was.

@@ -40,6 +40,8 @@ pub struct Plan<'a> {
     pub turns: Option<&'a [Turn]>,
     /// What the program is given to read.
     pub input: Input<'a>,
+    /// Whether the output of the run is left out of what is told of it.
+    pub ignores_output: bool,
 }
 
 impl<'a> Plan<'a> {
@@ -73,6 +75,16 @@ impl<'a> Plan<'a> {
         Plan { input, ..self }
     }
 
+    /// The same, with the output left out of what is told, or not.
+    pub fn ignoring_output(self, ignores_output: bool) -> Plan<'a>
+        ensures { result ≡ record self.entry { ignores_output = ignores_output } }
+    {
+        Plan {
+            ignores_output,
+            ..self
+        }
+    }
+
     /// All goes by lot.
     fn by_lot(limit: u32, seed: u64) -> Plan<'a>
         ensures { result ≡ by_lot limit seed }
@@ -87,6 +99,7 @@ impl<'a> Plan<'a> {
             is_early: is_early(seed),
             turns: None,
             input: Input::none(),
+            ignores_output: false,
         }
     }
 
@@ -106,6 +119,7 @@ impl<'a> Plan<'a> {
             is_early: is_early(seed),
             turns: None,
             input: Input::none(),
+            ignores_output: false,
         }
     }
 }

@@ -23,8 +23,8 @@ use sha2::{Digest, Sha256};
 #[derive(Debug, Drop, PartialEq, Eq)]
 pub struct Told {
     pub outcome: Outcome,
-    /// The SHA-256 digest of its output, where the program exited. How much a run that was broken off had put by then, one
-    /// of the same outcome may not have.
+    /// The SHA-256 digest of its output, where the program exited and outputs tell runs apart. How much a run that was broken off had
+    /// put by then, one of the same outcome may not have.
     pub digest: Option<[u8; 32]>,
 }
 
@@ -58,10 +58,14 @@ fn go_on(machine: &mut Machine, plan: &Plan<'_>, made: &mut Made, heard: &mut He
     *made = made.with(plan, who, answer);
 }
 
-/// The digest of the output, where the program exited.
-fn digest_of(outcome: &Outcome, hasher: Sha256) -> Option<[u8; 32]>
-    ensures { (output : List ℕ) → Holds256 hasher output → result ≡ digest_of outcome.now output }
+/// The digest of the output, where the program exited and outputs aren't ignored.
+fn digest_of(ignores_output: bool, outcome: &Outcome, hasher: Sha256) -> Option<[u8; 32]>
+    ensures { (output : List ℕ) → Holds256 hasher output
+        → result ≡ digest_of ignores_output outcome.now output }
 {
+    if ignores_output {
+        return None;
+    }
     match outcome {
         Outcome::Exited(_) => Some(hasher.finalize()),
         Outcome::Faulted(_, _, _)
@@ -72,15 +76,22 @@ fn digest_of(outcome: &Outcome, hasher: Sha256) -> Option<[u8; 32]>
 }
 
 /// A run that has come to its end.
-fn finish(machine: &Machine, ending: ScheduleEnd, made: Made, heard: Heard) -> Finished
+fn finish(
+    machine: &Machine,
+    plan: &Plan<'_>,
+    ending: ScheduleEnd,
+    made: Made,
+    heard: Heard,
+) -> Finished
     ensures outcome { result.told.outcome ≡ outcome_of ending machine.now.state.tables }
     ensures digest { (output : List ℕ) → Hears heard output
-        → result.told.digest ≡ digest_of result.told.outcome output }
+        → result.told.digest
+        ≡ digest_of plan.now.ignores_output result.told.outcome output }
     ensures made { result.made ≡ made }
     ensures said { (output : List ℕ) → Hears heard output → result.said ≡ last_line output }
 {
     let outcome = outcome_of(machine.tables(), ending);
-    let digest = digest_of(&outcome, heard.hasher);
+    let digest = digest_of(plan.ignores_output, &outcome, heard.hasher);
     Finished {
         told: Told { outcome, digest },
         made,
@@ -101,7 +112,7 @@ pub fn run(machine: &mut Machine, plan: &Plan<'_>) -> Finished
     'events: loop {
         match next(machine, plan, &made) {
             Next::Submit(event) => go_on(machine, plan, &mut made, &mut heard, &event),
-            Next::End(ending) => return finish(machine, ending, made, heard),
+            Next::End(ending) => return finish(machine, plan, ending, made, heard),
         }
     }
 }

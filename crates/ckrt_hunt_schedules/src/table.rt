@@ -1,7 +1,7 @@
 //! What a hunt came to, as a table.
 ghost use Rattle.std.specs.Prelude.{◌≡◌, ◌+◌, ◌≤◌, ◌++◌, ◌∷◌, [], codes, decimal, length, OnOk};
 ghost use Rattle.std.specs.Io.KnownBytes.{Appends};
-ghost use Rattle.ckrt_hunt_schedules.specs.Table.{command_line, drawn_text, head_text, input_text, kept_text, outcome_line, others_line, placed_text, races_word, row_text, rows_text, runs_text, said_line, seed_text, shape_text, table_text, unkept_text};
+ghost use Rattle.ckrt_hunt_schedules.specs.Table.{command_line, drawn_text, head_text, ignored_word, input_text, kept_text, outcome_line, others_line, placed_text, races_word, row_text, rows_text, runs_text, said_line, seed_text, shape_text, table_text, unkept_text};
 
 use crate::outcomes::Outcomes;
 use crate::row::Row;
@@ -122,6 +122,19 @@ fn write_races_word<W: Write>(out: &mut W, races: bool) -> Result<()>
     }
 }
 
+/// That outcomes which differ in their output alone are one, where they are.
+#[tactic(auto, using(crate::proofs::AppendLemmas::appends_none))]
+fn write_ignored_word<W: Write>(out: &mut W, ignores_output: bool) -> Result<()>
+    ensures { OnOk result
+        (Appends (W.contents out.old) (W.contents out.new) (ignored_word ignores_output)) }
+{
+    if ignores_output {
+        out.write_all(b" --ignore-output")
+    } else {
+        Ok(())
+    }
+}
+
 /// Writes the command that runs a seed alone, and keeps it. It takes no memory.
 pub fn write_command_line<W: Write>(out: &mut W, asked: &Asked<'_>, seed: u64) -> Result<()>
     ensures { OnOk result
@@ -133,6 +146,7 @@ pub fn write_command_line<W: Write>(out: &mut W, asked: &Asked<'_>, seed: u64) -
     write_shape(out, &asked.shape)?;
     write_input(out, asked)?;
     write_races_word(out, asked.races)?;
+    write_ignored_word(out, asked.shape.ignores_output)?;
     write_counted(out, b" --keep seed-", seed)?;
     out.write_all(b".disk\n")
 }

@@ -157,6 +157,16 @@ const FILES: &[Absent] = &[
         JobFile::Making,
         "the disk in the making k.making: there is no such file\nckrt: File\n",
     ),
+    (
+        "hunt i --keep k",
+        JobFile::Kept,
+        "the disk k: there is no such file\nckrt: File\n",
+    ),
+    (
+        "hunt i --keep k/",
+        JobFile::FirstKept,
+        "the disk k/outcome-1.disk: there is no such file\nckrt: File\n",
+    ),
 ];
 
 /// Each of them.
@@ -178,7 +188,15 @@ type Unusable = (FileFault, &'static str);
 const REASONS_OF_FILES: &[Unusable] = &[
     (
         FileFault::NoFolder,
-        "the disk d: its folder is missing\nckrt: File\n",
+        "the disk d: its folder is missing; make it, or give another path\nckrt: File\n",
+    ),
+    (
+        FileFault::IsTaken,
+        "the disk d: something has this path already; move that away, or give another path\nckrt: File\n",
+    ),
+    (
+        FileFault::NotWritable,
+        "the disk d: no file can be made in its folder; see to its permissions, or give another path\nckrt: File\n",
     ),
     (
         FileFault::IsImage,

@@ -13,6 +13,7 @@ pub const SHAPE: Shape = Shape {
     pages: 16,
     harts: 2,
     limit: 10_000,
+    ignores_output: false,
 };
 
 /// The outcome that is wanted.

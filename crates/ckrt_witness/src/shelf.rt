@@ -251,6 +251,10 @@ impl<'a> Sources<'a, &'a [u8], StoppingDisk> for Shelf<'a> {
         }
     }
 
+    fn look_at_place(&self, _alloc: Global, _path: &str) -> Result<(), FileFault> {
+        Err(FileFault::StorageFull)
+    }
+
     fn last_reason(&self) -> OutputReason {
         OutputReason::Other
     }

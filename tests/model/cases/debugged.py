@@ -20,7 +20,7 @@ EVENTS = monitor("events")
 MOTIONS = ["vCont;c", "vCont;s:1", "vCont;s:2", "vCont;r1000,2000:1", "bc", "bs"]
 COMMANDS = [monitor("fork"), monitor("live 1"), monitor("live 0007"), monitor("event tick 1"), monitor("event place 0 1")]
 SETTINGS = [("Hc1", "", "OK"), ("Hc3f", "", "OK"), ("Z0,1000,4", "", "OK"), ("Z2,2000,4", "", "OK"), ("z1,1000,4", "", "OK"),
-            ("Z3,2000,4", "", ""), (monitor("limit 7"), "limit 7\n", "OK"), ("M2000,1:00", "", "E1e"), ("vRun;00", "", "")]
+            ("Z3,2000,4", "", "OK"), ("Z4,2000,4", "", "OK"), ("z3,2000,4", "", "OK"), ("z4,3000,1", "", "OK"), (monitor("limit 7"), "limit 7\n", "OK"), ("M2000,1:00", "", "E1e"), ("vRun;00", "", "")]
 
 
 @dataclass

@@ -7,7 +7,7 @@ from cases.glances import recording_of
 from cases.histories import recorded_disk
 from cases.mistakes import drawn_mistake
 from model.mistyped import HELP, LIST, answer_to, kinds_of_mistakes, text_of_packet, with_lists
-from model.motions import BEGIN, END, Steps, Stops, backward, named, next_step, onward, text_of_stop, thread_of_stop, threads_at
+from model.motions import ACCESSES, BEGIN, CHANGES, END, LOADS, Steps, Stops, backward, named, next_step, onward, text_of_stop, thread_of_stop, threads_at
 from model.stubs import answers_in, frame, is_answered, line_of_events, monitor, position_text, shown_at_first
 
 MOTIONS = {"vCont;c": onward, "bc": backward}
@@ -48,12 +48,20 @@ def moved_case(chance, case):
         return MovedCase(bytes(disk), Stops([], []), [])
     changed = sorted({address for step in steps for address in step.changed}) or [0x2000]
     places = chance.sample(sorted({step.place for step in steps if step.place % 4 == 0}), chance.choice([0, 1, 1]))
-    watches = [(chance.choice(changed) - chance.choice([0, 0, 1]), chance.choice([1, 1, 2, 4])) for _ in range(chance.choice([0, 1, 1, 2]))]
+    watches = [drawn_watch(chance, steps, changed) for _ in range(chance.choice([0, 1, 1, 2]))]
     ways = [(chance.choice(steps).before, chance.choices(list(MOTIONS), k=chance.choice([1, 2, 4]))) for _ in range(3)]
     ways += [((recording.first, 0), ["vCont;c"] * 3), ((recording.whole, 0), ["bc"] * 2)]
     if chance.random() < 0.6:
         ways.insert(0, (None, chance.choices(list(MOTIONS), k=chance.choice([1, 2]))))
     return MovedCase(bytes(disk), Stops(places, watches), [(place, with_mistakes(chance, motions)) for place, motions in ways])
+
+
+def drawn_watch(chance, steps, changed):
+    """Of any kind; of loads and accesses at a byte that some step loads or stores to, where there is one."""
+    kind = chance.choice([CHANGES, CHANGES, LOADS, ACCESSES])
+    accessed = sorted({address for step in steps for address in step.loaded | (step.stored if kind == ACCESSES else frozenset())})
+    address = chance.choice(changed if kind == CHANGES or not accessed else accessed)
+    return address - chance.choice([0, 0, 1]), chance.choice([1, 1, 2, 4]), kind
 
 
 def with_mistakes(chance, motions):

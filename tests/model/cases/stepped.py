@@ -7,7 +7,7 @@ from cases.debugged import TIME_LIMIT
 from cases.glances import recording_of
 from cases.histories import recorded_disk
 from cases.mistakes import drawn_mistake, spelled
-from cases.moved import place_at_first, steps_of, told_at, words_at_first
+from cases.moved import drawn_watch, place_at_first, steps_of, told_at, words_at_first
 from model.mistyped import HELP, LIST, kinds_of_mistakes, text_of_packet, with_lists
 from model.motions import (CHANGE, Stops, backward, end_of_steps, named, next_step, onward, own_step, stepped, stepped_back, text_of_stop,
                            thread_of_stop, threads_at)
@@ -159,7 +159,7 @@ def stepped_case(chance, case):
     changed = sorted({address for step in steps for address in step.changed}) or [0x2000]
     aligned = sorted({step.place for step in steps if step.place % 4 == 0})
     places = chance.sample(aligned, min(len(aligned), chance.choice([0, 1, 1, 2])))
-    watches = [(chance.choice(changed), chance.choice([1, 2, 4])) for _ in range(chance.choice([0, 0, 1, 2]))]
+    watches = [drawn_watch(chance, steps, changed) for _ in range(chance.choice([0, 0, 1, 2]))]
     way = Way(chance, recording, steps, Stops(places, watches))
     way.why()
     for number in range(6):

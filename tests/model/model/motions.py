@@ -1,5 +1,6 @@
 """Where a session of `ckrt debug` comes to, on and back, with breakpoints and watches: over the list of all steps of a recorded run."""
 from dataclasses import dataclass
+from typing import NamedTuple
 
 from model.accesses import access_of
 from model.processor import Cause
@@ -8,13 +9,16 @@ from model.threads import Status
 SIGNALS = {Cause.ILLEGAL: "04", Cause.BREAKPOINT: "05", Cause.JUMP_MISALIGNED: "0a", Cause.LOAD_MISALIGNED: "0a",
            Cause.STORE_MISALIGNED: "0a"}
 SEGMENT = "0b"
-END, BEGIN, CHANGE = "T05replaylog:end;", "T05replaylog:begin;", "T05watch:"
+END, BEGIN = "T05replaylog:end;", "T05replaylog:begin;"
+CHANGES, LOADS, ACCESSES = 2, 3, 4  # the kinds of watches, as their packets number them
+WATCHED = {CHANGES: "T05watch:", LOADS: "T05rwatch:", ACCESSES: "T05awatch:"}  # what a stop at each begins with
+CHANGE = tuple(WATCHED.values())
 
 
 @dataclass
 class Step:
-    """The position before it and the one behind it, whose it is and where, the bytes that it changes, and the fault that it ends with;
-    and which threads are there before it and behind it."""
+    """The position before it and the one behind it, whose it is and where, the bytes that it changes, those that it loads and those that it
+    stores to, and the fault that it ends with; and which threads are there before it and behind it."""
     before: tuple
     thread: int
     place: int
@@ -23,6 +27,13 @@ class Step:
     behind: tuple = ()
     there: frozenset = frozenset()
     left: frozenset = frozenset()
+    loaded: frozenset = frozenset()
+    stored: frozenset = frozenset()
+
+    def meets(self, watch):
+        """Whether it does with a byte of a watch what that is for."""
+        met = {CHANGES: self.changed, LOADS: self.loaded, ACCESSES: self.loaded | self.stored}[watch.kind]
+        return bool(met & watch.bytes())
 
 
 class Steps:
@@ -47,9 +58,11 @@ class Steps:
             self.steps[-1].behind = self.steps[-1].behind or (self.event, step)
         thread = machine.harts[hart]
         access = access_of(machine, thread, (self.event, step))
-        span = range(access.address, access.address + access.length) if access and access.is_store else ()
-        old = {address: machine.memory.load(address, 1) for address in span}
-        self.steps.append(Step((self.event, step), thread, machine.threads[thread].pc, frozenset(), there=those_there(machine)))
+        span = range(access.address, access.address + access.length) if access else ()
+        stored, loaded = (span, ()) if access and access.is_store else ((), span)
+        old = {address: machine.memory.load(address, 1) for address in stored}
+        self.steps.append(Step((self.event, step), thread, machine.threads[thread].pc, frozenset(), there=those_there(machine),
+                               loaded=frozenset(loaded), stored=frozenset(stored)))
         made = make()
         self.steps[-1].left = those_there(machine)
         self.steps[-1].changed = frozenset(address for address, byte in old.items() if machine.memory.load(address, 1) != byte)
@@ -93,19 +106,32 @@ def thread_of_stop(payload):
     return int(payload.rpartition("thread:")[2][:-1], 16)
 
 
+class Watch(NamedTuple):
+    """From an address on so many bytes."""
+    address: int
+    length: int
+    kind: int = CHANGES
+
+    def bytes(self):
+        return set(range(self.address, self.address + self.length))
+
+
 @dataclass
 class Stops:
-    """Breakpoints, and watches in the order in which they are inserted: each an address and a length."""
+    """Breakpoints, and watches in the order in which they are inserted: each an address, a length and, where it is none of changes, a kind."""
     places: list
     watches: list
 
+    def __post_init__(self):
+        self.watches = [Watch(*watch) for watch in self.watches]
+
     def packets(self):
-        return [*[f"Z0,{place:x},4" for place in self.places], *[f"Z2,{address:x},{length:x}" for address, length in self.watches]]
+        return [*[f"Z0,{place:x},4" for place in self.places], *[f"Z{watch.kind},{watch.address:x},{watch.length:x}" for watch in self.watches]]
 
     def at_change(self, step):
-        """The stop at a step that changes what is watched: of several watches that which was inserted first. None where there is none."""
-        changed = [address for address, length in self.watches if step.changed & set(range(address, address + length))]
-        return f"{CHANGE}{changed[0]:x};thread:{step.thread:x};" if changed else None
+        """The stop at a step that meets a watch: of several that which was inserted first. None where there is none."""
+        met = [watch for watch in self.watches if step.meets(watch)]
+        return f"{WATCHED[met[0].kind]}{met[0].address:x};thread:{step.thread:x};" if met else None
 
     def at_place(self, step):
         """The stop before a step at a breakpoint; None where it is at none."""

@@ -54,6 +54,14 @@ class Motions(unittest.TestCase):
         self.assertEqual([sorted(step.changed) for step in self.zeros], [[], [], []])
         self.assertEqual([sorted(step.changed) for step in self.steps], [[], [], [0x2001], []])
         self.assertEqual([step.fault for step in self.steps], [0, 0, 0, 2])
+        self.assertEqual([sorted(step.stored) for step in self.steps], [[], [], [0x2000, 0x2001, 0x2002, 0x2003], []])
+
+    def test_loads(self):
+        """A word, a halfword that goes nowhere, and a word that isn't aligned, which faults."""
+        steps = run_of(bytes.fromhex("b7220000 03a30200 03d02200 03a31200"), "place 0 1", "run 0 9")
+        self.assertEqual([sorted(step.loaded) for step in steps], [[], [0x2000, 0x2001, 0x2002, 0x2003], [0x2002, 0x2003], []])
+        self.assertEqual([len(step.stored | step.changed) for step in steps], [0] * 4)
+        self.assertEqual([step.fault for step in steps[:3]] + [steps[3].fault > 0], [0, 0, 0, True])
 
     def test_breakpoints(self):
         stops = Stops([0x1004], [])
@@ -77,6 +85,24 @@ class Motions(unittest.TestCase):
         self.assertEqual(backward(self.steps, stops, (2, 0), FIRST), (FIRST, BEGIN))
         for watch in [(0x2000, 1), (0x2002, 4)]:
             self.assertEqual(backward(self.steps, Stops([], [watch]), (3, 0), FIRST), (FIRST, BEGIN))
+
+    def test_watches_of_loads_and_accesses(self):
+        """A load meets what is watched for loads and for accesses, and a store that changes nothing what is watched for accesses alone."""
+        load, store = self.steps[1], self.steps[2]
+        load.loaded, store.stored, store.changed = frozenset([0x2002, 0x2003]), frozenset([0x2000, 0x2001]), frozenset()
+        for watch, place, told in [
+                ((0x2003, 4, 3), load, "T05rwatch:2003;"), ((0x2000, 3, 3), load, "T05rwatch:2000;"), ((0x2002, 2, 4), load, "T05awatch:2002;"),
+                ((0x2001, 1, 4), store, "T05awatch:2001;"), ((0x1FFD, 4, 4), store, "T05awatch:1ffd;")]:
+            stops, told = Stops([], [watch]), told + "thread:1;"
+            self.assertEqual(onward(self.steps, stops, (0, 0), LAST), (place.before, told))
+            self.assertEqual(stepped(self.steps, stops, place.before, LAST, 1), (place.before, told))
+            self.assertEqual(backward(self.steps, stops, (3, 0), FIRST), (place.behind, told))
+        for watch in [(0x2000, 2, 3), (0x2000, 4, 2), (0x2004, 4, 3), (0x2004, 4, 4), (0x1FFC, 4, 4)]:
+            self.assertEqual(backward(self.steps, Stops([], [watch]), (3, 0), FIRST), (FIRST, BEGIN))
+        for first in (3, 4):
+            stops = Stops([], [(0x2002, 1, first), (0x2002, 1, 7 - first)])
+            self.assertEqual(onward(self.steps, stops, (0, 0), LAST)[1], {3: "T05rwatch", 4: "T05awatch"}[first] + ":2002;thread:1;")
+        self.assertEqual(Stops([], [(0x2000, 4), (0x2000, 4, 3), (0x2001, 2, 4)]).packets(), ["Z2,2000,4", "Z3,2000,4", "Z4,2001,2"])
 
     def test_breakpoint_and_change(self):
         """Of a step that changes what is watched at a breakpoint: that is told first, and the change when it is asked again, and going back."""

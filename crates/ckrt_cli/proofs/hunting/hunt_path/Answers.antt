@@ -1,4 +1,4 @@
-use Rattle.std.proofs.Common.{rules, ◌≡◌, ◌∙◌, ℕ, List, true, Err, refl, subst, sym, inl, inr}
+use Rattle.std.proofs.Common.{rules, ◌≡◌, ◌∙◌, ℕ, List, true, Err, Some, ap, refl, subst, sym, inl, inr}
 use Rattle.std.specs.Prelude.{option_map}
 use Rattle.ckrt_cli_words.specs.Jobs.{hunting_of}
 use Rattle.ckrt_cli_disk.specs.Making.{IsFit}
@@ -20,7 +20,7 @@ returns g c =
     let given = c.in_ok-input.ensures in
     let guest = c.deref.result.now in
     let input = c.input_over-given.result in
-    let asked : Asked = record { image = job.image; shape = c.in-Some.shape; seeds = c.in-Some-seeds_for.seeds; may_end = c.is_some.result; input = job.input; races = job.races } in
+    let asked : Asked = record { image = job.image; shape = c.ignoring_output-shape.result; seeds = c.in-Some-seeds_for.seeds; may_end = c.is_some.result; input = job.input; races = job.races } in
     let h = c.hunt_image.ensures.hunts in
     let old = g.S.Closes.openings c.args.sources.now in
     let new = g.S.Closes.openings c.hunt_image.new.sources in
@@ -40,20 +40,20 @@ returns g c =
     let in_range : is_hunt_in_range (hunting_of job) ≡ true = search rules in
     record {
       hunts = λ left.
-          inr (inr (inr (inr (record {
+          inr (inr (inr (inr (inr (record {
             guest = guest;
             is_guest = λ bytes told. c.deref.ensures.value ∙ read.bytes bytes told;
             fit = subst (λ k. IsFit k (known job.image.now)) c.config_of-config.ensures read.known;
             input = input;
             is_input = input_before known (g.S.Sources.image_bytes c.fitting_image.new.sources) read.same.images path _ (subst (λ bytes. IsAskedInput (g.S.Sources.image_bytes c.fitting_image.new.sources) path bytes) (sym c.input_over-given.ensures) given.bytes);
             asked = asked;
-            is_asked = record { in_range = in_range; image = refl; shape = c.in-Some.ensures; seeds = c.in-Some-seeds_for.ensures; may_end = c.is_some.ensures; input = refl; races = refl };
+            is_asked = record { in_range = in_range; image = refl; shape = ap (λ n. Some n) c.ignoring_output-shape.ensures.numbers ∙ c.in-Some.ensures; seeds = c.in-Some-seeds_for.ensures; may_end = c.is_some.ensures; input = refl; races = refl; output = c.ignoring_output-shape.ensures.output };
             told = h.0;
             table = h.1;
             tells = h.2;
             ends = subst (λ o. EndsHunt g.D.Disk (wanted_of it guest input asked) (reached (with_asked_input path o) h.1) (reached new written) h.0 c.hunt_image.result) read.opened behind;
             unread = refl;
-          }))));
+          })))));
     }
 
 -- the image was read, and the input wasn't
@@ -69,12 +69,12 @@ returns-in_err-input g c =
     let told : c.from_residual-in_err-input.result ≡ Err why = search rules in
     record {
       hunts = λ left.
-          inr (inr (inr (inl (record {
+          inr (inr (inr (inr (inl (record {
             why = why;
             is = told;
             fit = subst (λ k. IsFit k (known job.image.now)) c.config_of-config.ensures read.known;
             unread_input = subst (λ o. EndsOnAskedInput known path o new why) read.opened (ends_before known (g.S.Sources.image_bytes first) read.same.images path (g.S.Closes.openings first) new why c.in_err-input.ensures.unfit);
             unwritten = refl;
             unread = refl;
-          }))));
+          })))));
     }
