@@ -18,7 +18,7 @@ PAGE = 4_096  # the first one has no memory
 MOST_PARTS = 4_096  # of a variable, that have rows of their own
 MOST_TEXT = 1_000  # bytes of a row's text
 THREADS = "__guest_threads"  # the kit's table of the records of threads (docs/ABI.md)
-KIT = re.compile(r"guest/(source|files|arithmetic|include)/|guest/spurious[.]c:|.*/(newlib|libgcc|picolibc)/")  # where sources lie that aren't the user's
+KIT = re.compile(r"guest/(source|files|arithmetic|include)/|guest/spurious[.]c:|.*/newlib/lib[cm]/|.*/libgcc/|.*/picolibc/.*/include/")  # where sources lie that aren't the user's
 HEADER = re.compile(r"^ *<([0-9a-f]+)><([0-9a-f]+)>: Abbrev Number: \d+(?: \((\w+)\))?")
 ATTRIBUTE = re.compile(r"^ *<[0-9a-f]+> +(DW_AT_\w+) *: (.*)$")
 
@@ -76,7 +76,7 @@ class Program:
         self.variables = dict(self.placed_variables())
         self.symbols = sorted(self.sized_symbols())
         self.made = None
-        self.kit = []  # stretches of code that isn't the user's, once the rows are made
+        self.kit, self.functions = [], []  # stretches of code that isn't the user's, and of functions with lines, once the rows are made
 
     def sized_symbols(self):
         for line in output_of("nm", "-S", "-C", "--defined-only", self.path).splitlines():
@@ -154,27 +154,25 @@ class Program:
                 end = min(self.symbols[at][0] + size, following if following > self.symbols[at][0] else 1 << 32)
                 if begin < end and is_code:
                     self.made += self.code_rows(texts, begin, end, name)
-                    if self.is_of_kit(code, begin, end):
-                        self.add_to_kit(begin, end)
+                    self.add_function(code, begin, end)
                 elif begin < end:
                     self.made += self.variable_rows(self.symbols[at][0], begin, end, name)
         return self.made
 
-    @staticmethod
-    def is_of_kit(code, begin, end):
-        """Whether a function's source is one of the kit, the C library or the compiler's library: that of its first line that is known."""
-        files = (pairs[-1][1] for pairs in (code.get(address) for address in range(begin, end, 4)) if pairs)
-        return bool(KIT.match(next((file for file in files if not file.startswith("??")), "")))
-
-    def add_to_kit(self, begin, end):
-        if self.kit and self.kit[-1][1] == begin:
-            begin = self.kit.pop()[0]
-        self.kit.append((begin, end))
+    def add_function(self, code, begin, end):
+        """Notes a function, and whether it isn't the user's: by the file of its first line that is known."""
+        places = (pairs[-1][1] for pairs in (code.get(address) for address in range(begin, end, 4)) if pairs)
+        line = next((line for line in places if not line.startswith("??")), None)
+        if line:
+            self.functions.append((begin, end))
+        if line and KIT.match(line):
+            begins = self.kit.pop()[0] if self.kit and self.kit[-1][1] == begin else begin
+            self.kit.append((begins, end))
 
     def ways(self, image):
         """Stretches of code with the way from there to the caller, as (begin, end, words)."""
-        functions = [(begin, begin + size) for begin, size, _, is_code in self.symbols if is_code and size]
-        return ways(output_of("objdump", "--dwarf=frames", self.path), image, functions)
+        self.rows()
+        return ways(output_of("objdump", "--dwarf=frames", self.path), image, self.functions)
 
     def threads(self):
         """Where the kit has its table of threads; None of a program without."""
