@@ -7,7 +7,7 @@ static int balance;
 
 static void *book(void *unused) {
     pthread_setname_np(pthread_self(), "teller");
-    for (int count = 0; count < 300; count++) {
+    for (int count = 0; count < 3000; count++) {
         int found = balance; /* loads */
         *(volatile int *)&balance = found + 1; /* stores */
     }
@@ -18,7 +18,7 @@ static void *audit(void *tellers) {
     pthread_setname_np(pthread_self(), "auditor");
     pthread_join(((pthread_t *)tellers)[0], NULL); /* joins the first teller */
     pthread_join(((pthread_t *)tellers)[1], NULL); /* joins the second teller */
-    assert(balance == 600); /* fails */
+    assert(balance == 6000); /* fails */
     return NULL;
 }
 
