@@ -21,7 +21,7 @@ BUILD = TOP / "guest/build"
 MOST = 64  # frames of a walk
 
 # Functions that are called back by the C library, with frames of odd kinds: a frame whose size isn't known before it runs, one with many
-# arguments, a function that calls itself, a handler that runs within a call of the kit, doubles, and a jump back.
+# arguments, a function that calls itself, a handler that runs within a call of the kit, routines for numbers, and a jump back.
 CALLERS = """#include <pthread.h>
 #include <setjmp.h>
 #include <stdio.h>
@@ -30,6 +30,8 @@ CALLERS = """#include <pthread.h>
 static pthread_mutex_t lock = PTHREAD_MUTEX_INITIALIZER;
 static int numbers[24];
 static double sum;
+static float share;
+static long long product;
 static jmp_buf back;
 static int compare(const void *first, const void *second) {
     pthread_mutex_lock(&lock);
@@ -44,7 +46,11 @@ __attribute__((noinline)) static int deep(int left, int a, int b, int c, int d, 
 __attribute__((noinline)) static void sized(int size) {
     char *bytes = __builtin_alloca(size);
     memset(bytes, size, size);
-    for (int at = 0; at < size; at++) sum += bytes[at] / 3.0;
+    for (int at = 0; at < size; at++) {
+        sum += bytes[at] / 3.0;
+        share = share * bytes[at] / 5 + 1;
+        product = product * size % 1000003 + at;
+    }
 }
 static void handler(void *unused) {
     (void)unused;
@@ -181,7 +187,7 @@ def stopped(ckrt, folder, source, options):
 
 # Where a walk may end: functions that nobody called, those that have taken the return address away, and those whose caller's return
 # address is in another register.
-ENDS = re.compile(r"begin|__guest_start|__guest_thread_end|__riscv_(save|restore)_\d+|longjmp|__\w*(div|mod)\w*")
+ENDS = re.compile(r"begin|__guest_start|__guest_thread_end|__riscv_(save|restore)_\d+|longjmp|__(?!guest)\w*[sd][if]\w*")
 
 
 def compared(ckrt, folder, source, options, has_gdb):
