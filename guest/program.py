@@ -11,10 +11,14 @@ from bisect import bisect_right
 from dataclasses import dataclass, field
 from itertools import groupby
 
+from frames import ways
+
 TOOL = "riscv64-unknown-elf-"
 PAGE = 4_096  # the first one has no memory
 MOST_PARTS = 4_096  # of a variable, that have rows of their own
 MOST_TEXT = 1_000  # bytes of a row's text
+THREADS = "__guest_threads"  # the kit's table of the records of threads (docs/ABI.md)
+KIT = re.compile(r"guest/(source|files|arithmetic|include)/|guest/spurious[.]c:|.*/newlib/lib[cm]/|.*/libgcc/|.*/picolibc/.*/include/")  # where sources lie that aren't the user's
 HEADER = re.compile(r"^ *<([0-9a-f]+)><([0-9a-f]+)>: Abbrev Number: \d+(?: \((\w+)\))?")
 ATTRIBUTE = re.compile(r"^ *<[0-9a-f]+> +(DW_AT_\w+) *: (.*)$")
 
@@ -26,6 +30,11 @@ def output_of(name, *words, given=None):
         sys.exit(f"{TOOL}{name} is missing: apt-get install binutils-riscv64-unknown-elf")
     except subprocess.CalledProcessError as error:
         sys.exit(error.stderr.strip())
+
+
+def plain_line(text):
+    """A file and a line, as addr2line tells it, without what stands around."""
+    return re.sub(r"^([.]/)+", "", re.sub(r" \(discriminator \d+\)", "", text))
 
 
 @dataclass
@@ -67,6 +76,7 @@ class Program:
         self.variables = dict(self.placed_variables())
         self.symbols = sorted(self.sized_symbols())
         self.made = None
+        self.kit, self.functions = [], []  # stretches of code that isn't the user's, and of functions with lines, once the rows are made
 
     def sized_symbols(self):
         for line in output_of("nm", "-S", "-C", "--defined-only", self.path).splitlines():
@@ -137,16 +147,40 @@ class Program:
         if self.made is None:
             self.made = [(0, PAGE, "the null page", False)]
             code = self.code_lines([symbol for symbol in self.symbols if symbol[3]])
+            texts = {address: self.line(pairs) for address, pairs in code.items()}
             for at, (begin, size, name, is_code) in enumerate(self.symbols):
                 begin = max(begin, self.made[-1][1])  # of two symbols of one place the first is told
                 following = self.symbols[at + 1][0] if at + 1 < len(self.symbols) else 1 << 32
                 end = min(self.symbols[at][0] + size, following if following > self.symbols[at][0] else 1 << 32)
-                if begin < end:
-                    self.made += self.code_rows(code, begin, end, name) if is_code else self.variable_rows(self.symbols[at][0], begin, end, name)
+                if begin < end and is_code:
+                    self.made += self.code_rows(texts, begin, end, name)
+                    self.add_function(code, begin, end)
+                elif begin < end:
+                    self.made += self.variable_rows(self.symbols[at][0], begin, end, name)
         return self.made
 
+    def add_function(self, code, begin, end):
+        """Notes a function, and whether it isn't the user's: by the file of its first line that is known."""
+        places = (pairs[-1][1] for pairs in (code.get(address) for address in range(begin, end, 4)) if pairs)
+        line = next((line for line in places if not line.startswith("??")), None)
+        if line:
+            self.functions.append((begin, end))
+        if line and KIT.match(line):
+            begins = self.kit.pop()[0] if self.kit and self.kit[-1][1] == begin else begin
+            self.kit.append((begins, end))
+
+    def ways(self, image):
+        """Stretches of code with the way from there to the caller, as (begin, end, words)."""
+        self.rows()
+        return ways(output_of("objdump", "--dwarf=frames", self.path), image, self.functions)
+
+    def threads(self):
+        """Where the kit has its table of threads; None of a program without."""
+        return next((begin for begin, _, name, _ in self.symbols if name == THREADS), None)
+
     def code_lines(self, symbols):
-        """For each instruction of these functions its text, where the program has lines for it."""
+        """For each instruction of these functions its places in the source, as (function, file and line): what was drawn into another function
+        stands before that."""
         addresses = sorted({address for begin, size, _, _ in symbols for address in range(begin, begin + size, 4)})
         said = output_of("addr2line", "-a", "-C", "-f", "-i", "-e", self.path, given="".join(f"{address:x}\n" for address in addresses))
         lines, address = {}, None
@@ -156,13 +190,13 @@ class Program:
                 lines[address] = []
             else:
                 lines[address].append(line)
-        return {address: self.line(texts) for address, texts in lines.items()}
+        return {address: [(function, plain_line(line)) for function, line in zip(texts[::2], texts[1::2])] for address, texts in lines.items()}
 
-    def line(self, texts):
+    @staticmethod
+    def line(pairs):
         """A function with its file and line; what was drawn into another function is named with that."""
-        pairs = [(function, re.sub(r" \(discriminator \d+\)", "", line)) for function, line in zip(texts[::2], texts[1::2])]
         known = [(function, line) for function, line in pairs if not line.startswith("??") and "source/calls.h" not in line]
-        return ", in ".join(f"{function} at {re.sub(r'^([.]/)+', '', line)}" for function, line in known)
+        return ", in ".join(f"{function} at {line}" for function, line in known)
 
     def code_rows(self, code, begin, end, name):
         """The rows of a function: one for as many instructions in a row as have one text."""
@@ -225,8 +259,12 @@ class Program:
 
     def names(self, image):
         """The bytes of the file of names of this image."""
-        lines = [f"ckrt-names 1 {hashlib.sha256(image).hexdigest()} {len(image):08x}"]
+        lines = [f"ckrt-names 2 {hashlib.sha256(image).hexdigest()} {len(image):08x}"]
         for begin, end, text, tells_offset in self.rows():
             shown = "".join(letter if letter.isprintable() else "?" for letter in text).encode()[:MOST_TEXT].decode(errors="ignore")
             lines.append(f"{'in' if tells_offset else 'at'} {begin:08x} {end - begin:08x} {shown}")
+        lines += [f"kit {begin:08x} {end - begin:08x}" for begin, end in self.kit]
+        lines += [f"up {begin:08x} {end - begin:08x} {words}" for begin, end, words in self.ways(image)]
+        if (threads := self.threads()) is not None:
+            lines.append(f"threads {threads:08x}")
         return "".join(f"{line}\n" for line in lines).encode()

@@ -11,6 +11,7 @@
 .macro by_doubles name, operation
 routine \name
     addi t6, ra, 0
+    .cfi_register ra, t6
     addi a7, a0, 0
     addi a0, a1, 0
     jal  __extendsfdf2
@@ -22,6 +23,7 @@ routine \name
     addi a3, a5, 0
     jal  \operation
     addi ra, t6, 0
+    .cfi_restore ra
     j    __truncdfsf2
 routine_end \name
 .endm
@@ -36,8 +38,10 @@ by_doubles __divsf3, __divdf3
 .macro by_double name, first, second
 routine \name
     addi t6, ra, 0
+    .cfi_register ra, t6
     jal  \first
     addi ra, t6, 0
+    .cfi_restore ra
     j    \second
 routine_end \name
 .endm

@@ -23,6 +23,7 @@ routine_end __mulsi3
 # upper word each upper word times the other lower one.
 routine __muldi3, .text
     addi t6, ra, 0
+    .cfi_register ra, t6
     addi a6, a0, 0
     addi a7, a2, 0
     addi t4, a1, 0
@@ -40,6 +41,7 @@ routine __muldi3, .text
     addi a1, a0, 0
     addi a0, t3, 0
     addi ra, t6, 0
+    .cfi_restore ra
     ret
 routine_end __muldi3
 

@@ -32,9 +32,11 @@ sizes __udivsi3
 # unsigned __umodsi3(unsigned, unsigned)
 entry __umodsi3
     addi t0, ra, 0
+    .cfi_register ra, t0
     jal  __udivsi3
     addi a0, a1, 0
     jr   t0
+    .cfi_restore ra
 sizes __umodsi3
 
 .Lnegative_dividend:
@@ -46,13 +48,16 @@ sizes __umodsi3
     sub  a1, x0, a1
 .Lone_negative:
     addi t0, ra, 0
+    .cfi_register ra, t0
     jal  __udivsi3
     sub  a0, x0, a0
     jr   t0
+    .cfi_restore ra
 
 # int __modsi3(int, int). The rest has the sign of the dividend.
 entry __modsi3
     addi t0, ra, 0
+    .cfi_register ra, t0
     bltz a1, 2f
     bltz a0, 3f
 1:  jal  __udivsi3

@@ -4,6 +4,7 @@
 #include "stack.h"
 #include "thread.h"
 
+    .cfi_sections .debug_frame # another section would keep functions in the image that nobody calls
     .section .text.__guest_thread_end, "ax", @progbits
     .globl __guest_thread_end
     .type   __guest_thread_end, @function
@@ -15,6 +16,8 @@
 # variables that belong to that. One thread at a time stands there, the one that holds the lock; and from the unlock on
 # it touches no memory: what is left is done in registers.
 __guest_thread_end:
+    .cfi_startproc
+    .cfi_undefined ra
     mv      s0, a0
     call    __guest_run_destructors
     li      s1, THREADS_LOCK
@@ -32,6 +35,7 @@ __guest_thread_end:
     ecall
     li      t0, UNWINDING_GATE
     jr      t0
+    .cfi_endproc
     .size   __guest_thread_end, . - __guest_thread_end
 
     .section .bss.spare_stack, "aw", @nobits
@@ -48,11 +52,17 @@ __guest_spare_stack_end:
 
 # void __guest_cleanup_pop(int execute). The call may run the handler, which overwrites x1 and returns behind the ECALL.
 __guest_cleanup_pop:
+    .cfi_startproc
     addi    sp, sp, -16
+    .cfi_def_cfa_offset 16
     sw      ra, 12(sp)
+    .cfi_offset ra, -4
     li      a7, CALL_CLEANUP_POP
     ecall
     lw      ra, 12(sp)
+    .cfi_restore ra
     addi    sp, sp, 16
+    .cfi_def_cfa_offset 0
     ret
+    .cfi_endproc
     .size   __guest_cleanup_pop, . - __guest_cleanup_pop

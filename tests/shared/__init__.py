@@ -9,7 +9,8 @@
 - `comparing`: compares outputs and disks, and tells what differs;
 - `instructions`: words of instructions, and guests with labels;
 - `guests`: guests that several tests run, and what they put;
-- `kit_checks`: the guest kit, apart from what its programs print.
+- `kit_checks`: the guest kit, apart from what its programs print;
+- `kit_frames`: the ways from an address of a guest to its callers.
 
 The comparing model (`tests/model`) takes nothing of it: it has the rules, the layout and the instructions by itself.
 """

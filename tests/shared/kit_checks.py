@@ -3,7 +3,7 @@ import random
 import re
 import subprocess
 
-from shared import disks, lives
+from shared import disks, kit_frames, lives
 from shared.programs import TOP
 
 ENDINGS = TOP / "tests/programs/endings"
@@ -396,10 +396,17 @@ def words(folder):
             yield f"{name} has other words than a run loop knows: {found}"
 
 
+def callers(ckrt, folder):
+    """By the rows of a file of names the callers of each thread are found, as gdb finds them."""
+    place = folder / "callers"
+    place.mkdir()
+    yield from kit_frames.failures(ckrt, place)
+
+
 def failures(ckrt, folder):
     """All that is wrong, as texts."""
     checks = [refused_sources(folder), refused_words(folder), endings(ckrt, folder), crews(ckrt, folder), tools(ckrt, folder), headers(folder),
-              types(ckrt, folder), digits(ckrt, folder), traps(ckrt, folder), ends(ckrt, folder), cache(folder), projects(ckrt, folder), words(folder)]
+              types(ckrt, folder), digits(ckrt, folder), traps(ckrt, folder), ends(ckrt, folder), cache(folder), projects(ckrt, folder), words(folder), callers(ckrt, folder)]
     found = []
     for check in checks:
         wrong = list(check)
