@@ -135,7 +135,7 @@ fn behind_last<'a>(text: &'a [u8], key: &[u8]) -> &'a [u8] {
 }
 
 /// The function of a text: of what was drawn into another one, that one.
-fn function_of(text: &[u8]) -> &[u8] {
+pub(crate) fn function_of(text: &[u8]) -> &[u8] {
     let outermost = behind_last(text, b", in ");
     let Some(at) = find(outermost, b" at ") else {
         return outermost;
