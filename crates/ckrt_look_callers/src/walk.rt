@@ -18,13 +18,18 @@ pub struct Call {
     pub from: u32,
 }
 
-/// From a frame of the kit to its callers, up to the first that isn't the kit's.
-#[tactic(auto, using(crate::proofs::WalkLemmas::goes_on, crate::proofs::WalkLemmas::leaves))]
-fn call_within(kit: &[Stretch], rules: &[Rule], memory: &Memory, frame: &Frame) -> Option<Call>
-    ensures { result ≡ call_within 64 kit.now rules.now memory.now.bytes frame.now }
+/// From a frame of the kit to its callers, so many at most, up to the first that isn't the kit's.
+fn call_within(
+    kit: &[Stretch],
+    rules: &[Rule],
+    memory: &Memory,
+    frame: &Frame,
+    most: u32,
+) -> Option<Call>
+    ensures { result ≡ call_within most kit.now rules.now memory.now.bytes frame.now }
 {
     let mut inner = *frame;
-    let mut left = MOST_FRAMES;
+    let mut left = most;
     while left > 0 {
         let rule = rule_at(rules, inner.place)?;
         let caller = inner.caller(memory, &rule)?;
@@ -49,5 +54,5 @@ pub fn call_of(kit: &[Stretch], rules: &[Rule], memory: &Memory, frame: &Frame) 
     if !is_kit(kit, frame.place) {
         return None;
     }
-    call_within(kit, rules, memory, frame)
+    call_within(kit, rules, memory, frame, MOST_FRAMES)
 }
