@@ -1,5 +1,5 @@
 -- A step of the walk out of a kit.
-use Rattle.std.proofs.Common.{ℕ, List, ◌≡◌, ◌<◌, ◌-◌, ◌∙◌, Bool, Option, Some, None, true, false, if◌then◌else◌, zero, suc, ap, sym, refl, arith}
+use Rattle.std.proofs.Common.{ℕ, List, ◌≡◌, ◌<◌, ◌-◌, ◌∙◌, Bool, Option, Some, true, if◌then◌else◌, zero, suc, ap, sym, arith}
 use Rattle.ckrt_look_callers.specs.Frames.{◌>>=◌, call_within, caller_of, is_kit, rule_at}
 use Rattle.ckrt_look_callers.specs.declared.frame.Frame.{Frame}
 use Rattle.ckrt_look_callers.specs.declared.rule.Rule.{Rule}
@@ -30,7 +30,7 @@ less_one more = omega arith
 -- a caller that is the kit's
 pub goes_on : (left : ℕ) (kit : List Stretch) (rules : List Rule) (bytes : List ℕ) (frame caller : Frame) (rule : Rule) → 0 < left → rule_at rules frame.place ≡ Some rule → caller_of bytes rule frame ≡ Some caller
     → is_kit kit caller.place ≡ true → call_within (left - 1) kit rules bytes caller ≡ call_within left kit rules bytes frame
-goes_on zero kit rules bytes frame caller rule some = absurd (omega (arith, some))
+goes_on zero kit rules bytes frame caller rule some found called within = absurd (omega (arith, some))
 goes_on (suc more) kit rules bytes frame caller rule some found called within =
     ap (λ (n : ℕ). call_within n kit rules bytes caller) (sym (less_one more))
     ∙ sym (step more kit rules bytes frame caller rule true found called within)

@@ -1,5 +1,5 @@
 -- Frames of functions, from each to its caller, as call frame information has it (DWARF 5, 6.4), and the first call by which a thread came into a kit.
-use Rattle.std.specs.Prelude.{ℕ, ◌+◌, ◌-◌, ◌^◌, ◌%◌, List, Bool, true, false, ◌&&◌, nat_le, nat_lt, if◌then◌else◌, zero, suc, Option, Some, None}
+use Rattle.std.specs.Prelude.{ℕ, ◌+◌, ◌-◌, ◌^◌, ◌%◌, List, Bool, ◌&&◌, nat_le, nat_lt, if◌then◌else◌, zero, suc, Option, Some, None}
 use Rattle.std.specs.List.{find, list_any}
 use Rattle.ckrt_registers.specs.Registers.{Registers, get}
 use Rattle.ckrt_rv32i.specs.Memory.{is_aligned, is_valid, loaded}

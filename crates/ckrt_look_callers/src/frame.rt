@@ -38,7 +38,7 @@ impl Frame {
     }
 
     /// The caller of a frame, by the rule of its place. It stands at its call: in the word before the return address.
-    pub fn caller(&self, memory: &Memory, rule: &Rule) -> Option<Frame>
+    pub(crate) fn caller(&self, memory: &Memory, rule: &Rule) -> Option<Frame>
         ensures { result ≡ caller_of memory.now.bytes rule.now self.now }
     {
         let address = rule.frame_address(self);

@@ -51,7 +51,7 @@ pub struct Rule {
 
 impl Stretch {
     /// Whether an address lies in it.
-    pub fn has(&self, address: u32) -> bool
+    pub(crate) fn has(&self, address: u32) -> bool
         ensures { result ≡ has address self.now }
     {
         self.begin <= address && address < self.end
@@ -59,14 +59,14 @@ impl Stretch {
 }
 
 /// Whether an address is one of the kit's.
-pub fn is_kit(kit: &[Stretch], address: u32) -> bool
+pub(crate) fn is_kit(kit: &[Stretch], address: u32) -> bool
     ensures { result ≡ is_kit kit.now address }
 {
     kit.iter().any(|stretch| stretch.has(address))
 }
 
 /// The first rule that is of an address.
-pub fn rule_at(rules: &[Rule], address: u32) -> Option<Rule>
+pub(crate) fn rule_at(rules: &[Rule], address: u32) -> Option<Rule>
     ensures { result ≡ rule_at rules.now address }
 {
     rules.iter().copied().find(|rule| rule.stretch.has(address))
@@ -74,7 +74,7 @@ pub fn rule_at(rules: &[Rule], address: u32) -> Option<Rule>
 
 impl Rule {
     /// The canonical frame address of a frame.
-    pub fn frame_address(&self, frame: &Frame) -> u32
+    pub(crate) fn frame_address(&self, frame: &Frame) -> u32
         ensures { result ≡ frame_address self.now frame.now }
     {
         let base = match self.base {
@@ -87,7 +87,7 @@ impl Rule {
 
 impl Saved {
     /// What a register was before the call, which is `now` at present.
-    pub fn before_call(self, memory: &Memory, address: u32, now: u32) -> Option<u32>
+    pub(crate) fn before_call(self, memory: &Memory, address: u32, now: u32) -> Option<u32>
         ensures { result ≡ before_call memory.now.bytes address now self }
     {
         match self {

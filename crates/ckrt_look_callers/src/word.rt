@@ -6,7 +6,7 @@ use ckrt_memory::Memory;
 use ckrt_rv32i::{Bus, Size};
 
 /// The word at an address, where that is aligned and in the memory.
-pub fn word_at(memory: &Memory, address: u64) -> Option<u32>
+pub(crate) fn word_at(memory: &Memory, address: u64) -> Option<u32>
     ensures { result ≡ word_at memory.now.bytes address }
 {
     memory.known();

@@ -1,4 +1,4 @@
-use Rattle.std.proofs.Common.{◌≡◌, ℕ}
+use Rattle.std.proofs.Common.{◌≡◌}
 use Rattle.ckrt_look_callers.specs.Frames.{call_within}
 use Rattle.ckrt_look_callers.proofs.walk.call_within.Given as goal
 
