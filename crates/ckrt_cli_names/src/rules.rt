@@ -102,13 +102,12 @@ fn read_line(line: &[u8]) -> Option<Line> {
         return Some(Line::Threads(hex_word(words)?));
     }
     let (begin, words) = next_word(words);
-    let (size, words) = next_word(words);
-    let stretch = stretch(begin, size)?;
-    if kind == b"up".as_slice() {
-        return Some(Line::Up(read_rule(stretch, words)?));
+    if kind == b"kit".as_slice() {
+        return Some(Line::Kit(stretch(begin, words)?));
     }
-    if kind == b"kit".as_slice() && words.is_empty() {
-        return Some(Line::Kit(stretch));
+    let (size, words) = next_word(words);
+    if kind == b"up".as_slice() {
+        return Some(Line::Up(read_rule(stretch(begin, size)?, words)?));
     }
     None
 }
