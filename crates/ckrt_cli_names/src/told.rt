@@ -1,4 +1,7 @@
 //! What is told of a thread: its name, and where it stands in the user's own code.
+ghost use Rattle.std.specs.Prelude.{◌≡◌};
+ghost use Rattle.ckrt_cli_names.specs.Rows.{bytes_of, rows_of};
+
 use crate::names::{Names, Place};
 use crate::renamed::{find, function_of, push_offset};
 use ckrt_look_callers::{Call, Frame, call_of, name_of};
@@ -129,14 +132,17 @@ impl Names {
     }
 
     /// Makes what stands behind the line of a thread, of which its frame is known: its name, and where it stands in the user's own code.
-    /// It takes the place of what would stand there for the address alone.
+    /// It takes the place of what would stand there for the address alone. No row changes.
     pub fn tell_thread(
         &mut self,
         alloc: Global,
         memory: &Memory,
         thread: u8,
         frame: &Frame,
-    ) -> Result<(), AllocError> {
+    ) -> Result<(), AllocError>
+        ensures rows { rows_of self.new ≡ rows_of self.old }
+        ensures bytes { bytes_of self.new ≡ bytes_of self.old }
+    {
         let mut text = Vec::new(alloc);
         if let Some(table) = self.rules.threads {
             push_name(name_of(memory, table, thread), &mut text)?;
