@@ -21,7 +21,7 @@ use std::env;
 use std::io::{self, ErrorKind, Write};
 use std::marker::Brand;
 use std::process::ExitCode;
-use threads::tell_listed;
+use threads::tell_looked_at;
 
 /// The job of these words on the standard streams, with a place for why an output failed; the answer is the program's status.
 fn run<'a>(
@@ -79,9 +79,7 @@ fn run_with<'a>(
         unused,
         gift,
     } = names;
-    if let Job::Inspect(job) = job {
-        let _ = tell_listed(rt, why, job, &mut printed);
-    }
+    let _ = tell_looked_at(rt, why, job, &mut printed);
     if let Some(Refusal { path, trouble }) = unused {
         let text = trouble.text();
         let _ = eprintln!(rt; "the names {path}.names: {text}; this goes on without them");

@@ -1,7 +1,7 @@
-//! What is told of the threads of a disk in a listing: read from the disk before it is listed.
+//! What is told of the threads of a disk in a listing or a timeline: read from the disk before that is made.
 use ckrt_cli_files::{Closes, OutputReason, RealDisk, Sources, SystemSources};
 use ckrt_cli_names::Names;
-use ckrt_cli_words::InspectJob;
+use ckrt_cli_words::Job;
 use ckrt_disk::Calls;
 use ckrt_inspect::read_program;
 use ckrt_look_callers::Frame;
@@ -23,13 +23,25 @@ fn tell_threads(alloc: Global, machine: &Machine, names: &mut Names) -> Result<(
     Ok(())
 }
 
-/// Tells the threads of the disk that a job lists. Where it can't be read they aren't told: the job itself will say why.
-pub fn tell_listed<'a>(
+/// Which disk's threads a job tells, and after how many events: in a listing as they are there, in a timeline as they are in the end.
+fn told_by<'a>(job: &Job<'a>) -> Option<(&'a str, Option<u64>)> {
+    match job {
+        Job::Inspect(job) => Some((job.disk, job.at)),
+        Job::Timeline(job) => Some((job.stretch.disk, None)),
+        _ => None,
+    }
+}
+
+/// Tells the threads of the disk that a job looks at. Where it can't be read they aren't told: the job itself will say why.
+pub fn tell_looked_at<'a>(
     rt: &'a HostRuntime,
     why: &'a Cell<OutputReason>,
-    job: &InspectJob<'a>,
+    job: &Job<'a>,
     names: &mut Names,
 ) -> Result<(), AllocError> {
+    let Some((path, at)) = told_by(job) else {
+        return Ok(());
+    };
     if !names.have_rules() {
         return Ok(());
     }
@@ -38,10 +50,10 @@ pub fn tell_listed<'a>(
         why,
         Calls::new(),
     );
-    let Ok(mut disk) = sources.look_at_disk(job.disk) else {
+    let Ok(mut disk) = sources.look_at_disk(path) else {
         return Ok(());
     };
-    let told = match read_program(rt.alloc(), &mut disk, job.at) {
+    let told = match read_program(rt.alloc(), &mut disk, at) {
         Ok(found) => tell_threads(rt.alloc(), &found.machine, names),
         Err(_) => Ok(()),
     };

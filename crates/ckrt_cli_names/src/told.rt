@@ -3,7 +3,9 @@ ghost use Rattle.std.specs.Prelude.{◌≡◌};
 ghost use Rattle.ckrt_cli_names.specs.Rows.{bytes_of, rows_of};
 
 use crate::names::{Names, Place};
+use crate::piece::Form;
 use crate::renamed::{find, function_of, push_offset};
+use crate::scan::word_end;
 use ckrt_look_callers::{Call, Frame, call_of, name_of};
 use ckrt_memory::Memory;
 use std::alloc::{AllocError, Global};
@@ -12,7 +14,18 @@ use std::alloc::{AllocError, Global};
 #[derive(Drop)]
 pub(crate) struct Told {
     thread: u8,
+    /// Its name, and where it stands.
     text: Vec<u8>,
+    /// How many bytes of that are its name.
+    name_size: usize,
+}
+
+/// A line of a timeline that labels what a thread did: what stands before its name, that name, and what stands after it.
+#[derive(Clone, Copy)]
+pub(crate) struct Label<'a, 'n> {
+    pub(crate) front: &'a [u8],
+    pub(crate) name: &'n [u8],
+    pub(crate) back: &'a [u8],
 }
 
 /// A byte of a name, as it is printed.
@@ -66,14 +79,10 @@ fn push_caller(caller: Place<'_>, text: &mut Vec<u8>) -> Result<(), AllocError> 
     text.extend_from_slice(drawn_into)
 }
 
-/// The number of the thread whose line this is.
-fn thread_of(line: &[u8]) -> Option<u8> {
-    let rest = line.strip_prefix(b"thread ".as_slice())?;
+/// The number of a thread.
+fn number_of(digits: &[u8]) -> Option<u8> {
     let mut thread: u8 = 0;
-    for byte in rest {
-        if *byte == b' ' {
-            return Some(thread);
-        }
+    for byte in digits {
         if !byte.is_ascii_digit() {
             return None;
         }
@@ -81,7 +90,30 @@ fn thread_of(line: &[u8]) -> Option<u8> {
             .checked_mul(10)?
             .checked_add(byte.saturating_sub(b'0'))?;
     }
-    None
+    Some(thread)
+}
+
+/// The number of the thread whose line this is.
+fn thread_of(line: &[u8]) -> Option<u8> {
+    let rest = line.strip_prefix(b"thread ".as_slice())?;
+    let (digits, _) = cut(rest, b" ")?;
+    number_of(digits)
+}
+
+/// Where the number of a thread begins in a line that labels what it did.
+fn label_at(form: Form, line: &[u8]) -> Option<usize> {
+    let (begin, key) = if matches!(form, Form::Picture) {
+        (b"<text x=\"4\" ".as_slice(), b"\">thread ".as_slice())
+    } else {
+        (
+            b"{\"name\":\"thread_name\",".as_slice(),
+            b"{\"name\":\"thread ".as_slice(),
+        )
+    };
+    if !line.starts_with(begin) {
+        return None;
+    }
+    Some(find(line, key)?.saturating_add(key.len()))
 }
 
 impl Names {
@@ -147,20 +179,38 @@ impl Names {
         if let Some(table) = self.rules.threads {
             push_name(name_of(memory, table, thread), &mut text)?;
         }
+        let name_size = text.len();
         let call = self.call_of(memory, frame);
         self.push_standing(frame.place, call, &mut text)?;
-        self.told.push(Told { thread, text })?;
+        self.told.push(Told {
+            thread,
+            text,
+            name_size,
+        })?;
         Ok(())
+    }
+
+    /// What is told of a thread.
+    fn told_of(&self, thread: u8) -> Option<&Told> {
+        self.told.iter().find(|told| told.thread == thread)
     }
 
     /// What stands behind this line, where it is that of a thread of which something is told.
     pub(crate) fn told_behind(&self, line: &[u8]) -> Option<&[u8]> {
-        let thread = thread_of(line)?;
-        for told in &self.told {
-            if told.thread == thread {
-                return Some(told.text.as_slice());
-            }
+        let told = self.told_of(thread_of(line)?)?;
+        Some(told.text.as_slice())
+    }
+
+    /// The parts of a line of a timeline that labels a thread, where that has a name.
+    pub(crate) fn label_of<'a>(&self, form: Form, line: &'a [u8]) -> Option<Label<'a, '_>> {
+        let at = label_at(form, line)?.min(line.len());
+        let end = word_end(line, at);
+        let told = self.told_of(number_of(&line[at..end])?)?;
+        let name = told.text.as_slice().get(..told.name_size)?;
+        if name.is_empty() {
+            return None;
         }
-        None
+        let (front, back) = line.split_at(end);
+        Some(Label { front, name, back })
     }
 }

@@ -1,7 +1,7 @@
 //! What stands behind the lines of threads: their names, and the calls by which they came into a kit, by rows and frames made by hand.
 
 use crate::expect::{expect_bytes, expect_eq};
-use ckrt_cli_names::{NamedWriter, Names};
+use ckrt_cli_names::{Form, NamedWriter, Names};
 use ckrt_look_callers::Frame;
 use ckrt_memory::Memory;
 use ckrt_registers::Regs;
@@ -197,15 +197,21 @@ fn frame(waits: bool, registers: [u32; 4]) -> Frame {
     Frame::of(&regs, waits)
 }
 
-/// What is written of a line behind which something of a thread stands.
-fn play<R: Abort + AllocGlobal>(rt: &R, memory: &Memory, case: &Case, line: &[u8]) -> Vec<u8> {
+/// What is written of a line, in this form, where something is told of a thread.
+fn play<R: Abort + AllocGlobal>(
+    rt: &R,
+    memory: &Memory,
+    case: &Case,
+    form: Form,
+    line: &[u8],
+) -> Vec<u8> {
     let Some(mut names) = names_in(rt, FILE) else {
         panic!(rt; "these are names");
     };
     let frame = frame(case.1, case.2);
     let told = names.tell_thread(rt.alloc(), memory, case.0, &frame);
     expect_eq(rt, told.is_ok(), true);
-    let mut writer = NamedWriter::new(rt.alloc(), names, Vec::new(rt.alloc()));
+    let mut writer = NamedWriter::in_form(rt.alloc(), names, form, Vec::new(rt.alloc()));
     expect_eq(rt, writer.write_all(line).is_ok(), true);
     expect_eq(rt, writer.flush().is_ok(), true);
     writer.into_inner()
@@ -231,7 +237,7 @@ fn line_of<R: Abort + AllocGlobal>(rt: &R, thread: u8, behind: &[u8]) -> Vec<u8>
 /// A case.
 fn expect_told<R: Abort + AllocGlobal>(rt: &R, memory: &Memory, case: &Case) {
     let line = line_of(rt, case.0, b"");
-    let taken = play(rt, memory, case, &line);
+    let taken = play(rt, memory, case, Form::Notes, &line);
     let want = line_of(rt, case.0, case.3);
     expect_bytes(rt, &taken, &want);
 }
@@ -249,13 +255,35 @@ fn threads_are_told_by_name_and_call(rt: HostRuntime) {
 fn other_lines_are_told_as_ever(rt: HostRuntime) {
     let memory = memory(&rt);
     let line = b"thread 4 ready pc 00001008\nthreads 00001000\nthread 00001000\n";
-    let taken = play(&rt, &memory, &CASES[0], line);
+    let taken = play(&rt, &memory, &CASES[0], Form::Notes, line);
     expect_bytes(
         &rt,
         &taken,
         b"thread 4 ready pc 00001008    # worker at a.c:9\nthreads 00001000    # main at a.c:3\n\
 thread 00001000    # main at a.c:3\n",
     );
+}
+
+/// Lines of a picture, of which one labels thread 1, and what comes of them.
+const PICTURE: (&[u8], &[u8]) = (
+    b"<text x=\"4\" y=\"33\">thread 1</text>\n<text x=\"4\" y=\"53\">thread 2</text>\n<text>thread 1</text>\n",
+    b"<text x=\"4\" y=\"33\">thread 1 left</text>\n<text x=\"4\" y=\"53\">thread 2</text>\n\
+<text>thread 1</text>\n",
+);
+
+/// The same of trace events.
+const EVENTS: (&[u8], &[u8]) = (
+    b"{\"name\":\"thread_name\",\"ph\":\"M\",\"pid\":1,\"tid\":1,\"args\":{\"name\":\"thread 1\"}},\n",
+    b"{\"name\":\"thread_name\",\"ph\":\"M\",\"pid\":1,\"tid\":1,\"args\":{\"name\":\"thread 1 left\"}},\n",
+);
+
+#[test]
+fn timelines_have_names_of_threads(rt: HostRuntime) {
+    let memory = memory(&rt);
+    let picture = play(&rt, &memory, &CASES[0], Form::Picture, PICTURE.0);
+    expect_bytes(&rt, &picture, PICTURE.1);
+    let events = play(&rt, &memory, &CASES[0], Form::Events, EVENTS.0);
+    expect_bytes(&rt, &events, EVENTS.1);
 }
 
 /// Whether a file with these rows after its own is one of names.
