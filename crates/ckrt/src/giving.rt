@@ -7,8 +7,11 @@ use std::fs::{File, Files, OpenFile, OpenOptions};
 use std::io::{self, ErrorKind, Write};
 use std::os::unix::fs::MetadataExt;
 
-/// How each file of names begins.
-const BEGIN: &[u8] = b"ckrt-names 1 ";
+/// How each file of names begins, by its version.
+const BEGINS: [&[u8]; 2] = [b"ckrt-names 1 ", b"ckrt-names 2 "];
+
+/// How many bytes that are.
+const BEGIN_SIZE: u64 = 13;
 
 /// The names of a disk, what they shall be, and which files of the job they may not be.
 #[derive(Clone, Copy)]
@@ -53,13 +56,10 @@ impl Place<'_, '_> {
             Ok(found) if found.is_file() => {}
             _ => return false,
         }
-        match read_front(
-            rt,
-            self.alloc,
-            self.names,
-            (BEGIN.len() as u64).saturating_sub(1),
-        ) {
-            Ok(front) => BEGIN.starts_with(front.as_slice()),
+        match read_front(rt, self.alloc, self.names, BEGIN_SIZE.saturating_sub(1)) {
+            Ok(front) => BEGINS
+                .iter()
+                .any(|begin| begin.starts_with(front.as_slice())),
             Err(_) => false,
         }
     }

@@ -5,6 +5,7 @@
 mod asked;
 mod beside;
 mod giving;
+mod threads;
 
 use asked::{form_of, names_asked};
 use beside::{Beside, Refusal, Trouble};
@@ -20,6 +21,7 @@ use std::env;
 use std::io::{self, ErrorKind, Write};
 use std::marker::Brand;
 use std::process::ExitCode;
+use threads::tell_looked_at;
 
 /// The job of these words on the standard streams, with a place for why an output failed; the answer is the program's status.
 fn run<'a>(
@@ -72,11 +74,12 @@ fn run_with<'a>(
     names: Beside<'a>,
 ) -> u8 {
     let Beside {
-        printed,
+        mut printed,
         reported,
         unused,
         gift,
     } = names;
+    let _ = tell_looked_at(rt, why, job, &mut printed);
     if let Some(Refusal { path, trouble }) = unused {
         let text = trouble.text();
         let _ = eprintln!(rt; "the names {path}.names: {text}; this goes on without them");

@@ -8,7 +8,9 @@ mod names;
 mod piece;
 mod renamed;
 mod rows;
+mod rules;
 mod scan;
+mod told;
 mod unflushed;
 
 pub use fault::NamesFault;

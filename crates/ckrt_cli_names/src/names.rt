@@ -5,7 +5,9 @@ ghost use Rattle.ckrt_cli_names.specs.Rows.{HasNone, IsInOrder, LiesIn, bytes_of
 use crate::fault::NamesFault;
 use crate::renamed::push_offset;
 use crate::rows::{Head, Row, read_head, read_rows};
+use crate::rules::Rules;
 use crate::scan::{MOST, Scan, most_of};
+use crate::told::Told;
 use std::alloc::{AllocError, Global};
 
 /// The names of a program's addresses.
@@ -14,6 +16,9 @@ pub struct Names {
     bytes: Vec<u8>,
     head: Head,
     pub(crate) rows: Vec<Row>,
+    pub(crate) rules: Rules,
+    /// What is told of threads.
+    pub(crate) told: Vec<Told>,
 }
 
 /// What is named of an address.
@@ -42,8 +47,11 @@ impl Names {
             head: Head {
                 digest: [0; 32],
                 length: 0,
+                has_rules: false,
             },
             rows: Vec::new(alloc),
+            rules: Rules::none(alloc),
+            told: Vec::new(alloc),
         }
     }
 
@@ -59,8 +67,18 @@ impl Names {
         let Some(head) = read_head(&bytes) else {
             return Err(NamesFault::NoNames);
         };
-        let rows = read_rows(alloc, &bytes)?;
-        Ok(Names { bytes, head, rows })
+        let (rows, at) = read_rows(alloc, &bytes)?;
+        if !head.has_rules && at < bytes.len() {
+            return Err(NamesFault::Row(at as u64));
+        }
+        let rules = Rules::read(alloc, &bytes, at)?;
+        Ok(Names {
+            bytes,
+            head,
+            rows,
+            rules,
+            told: Vec::new(alloc),
+        })
     }
 
     /// The bytes of their file, none where there are no names.
@@ -82,6 +100,13 @@ impl Names {
         ensures { result ≡ self.now.head.length }
     {
         self.head.length
+    }
+
+    /// Whether there are rules among them, by which threads can be told.
+    pub fn have_rules(&self) -> bool
+        ensures { result ≡ self.now.head.has_rules }
+    {
+        self.head.has_rules
     }
 
     /// Whether there are none.
@@ -157,7 +182,19 @@ impl Names {
         Ok(())
     }
 
-    /// Makes the note of a line: the texts of its addresses, each once. Where memory is refused it has none.
+    /// Puts what is told of a line into a note: of its thread, or else the texts of its addresses.
+    fn push_told(&self, line: &[u8], note: &mut Vec<u8>) -> Result<(), AllocError> {
+        let Some(told) = self.told_behind(line) else {
+            return self.push_places(line, note);
+        };
+        if told.is_empty() {
+            return Ok(());
+        }
+        note.extend_from_slice(b"    # ")?;
+        note.extend_from_slice(told)
+    }
+
+    /// Makes the note of a line: what is told of its thread, or the texts of its addresses, each once. Where memory is refused it has none.
     pub(crate) fn push_note(&self, line: &[u8], note: &mut Vec<u8>)
         ensures none { self.now.rows.items ≡ [] → note.new.items ≡ [] }
     {
@@ -165,7 +202,7 @@ impl Names {
         if self.rows.is_empty() {
             return;
         }
-        if self.push_places(line, note).is_err() {
+        if self.push_told(line, note).is_err() {
             note.clear();
         }
     }

@@ -96,6 +96,15 @@ fn push_json(text: &[u8], out: &mut Vec<u8>) -> Result<(), AllocError> {
     Ok(())
 }
 
+/// A text in a timeline.
+fn push_marked_up(form: Form, text: &[u8], out: &mut Vec<u8>) -> Result<(), AllocError> {
+    if matches!(form, Form::Picture) {
+        push_xml(text, out)
+    } else {
+        push_json(text, out)
+    }
+}
+
 /// How far from the begin of its row an address is.
 pub(crate) fn push_offset(offset: u32, out: &mut Vec<u8>) -> Result<(), AllocError> {
     if offset == 0 {
@@ -135,7 +144,7 @@ fn behind_last<'a>(text: &'a [u8], key: &[u8]) -> &'a [u8] {
 }
 
 /// The function of a text: of what was drawn into another one, that one.
-fn function_of(text: &[u8]) -> &[u8] {
+pub(crate) fn function_of(text: &[u8]) -> &[u8] {
     let outermost = behind_last(text, b", in ");
     let Some(at) = find(outermost, b" at ") else {
         return outermost;
@@ -178,11 +187,7 @@ impl Names {
         let Some(place) = self.place_of_word(word) else {
             return out.extend_from_slice(word);
         };
-        if matches!(form, Form::Picture) {
-            push_xml(place.text, out)?;
-        } else {
-            push_json(place.text, out)?;
-        }
+        push_marked_up(form, place.text, out)?;
         push_offset(place.offset, out)
     }
 
@@ -213,14 +218,9 @@ impl Names {
         self.push_either(form, word, out)
     }
 
-    /// Makes a line with names in the place of its addresses.
+    /// Makes a line with names in the place of its addresses, word by word.
     #[tactic(auto, using(crate::proofs::PutLemmas::marks_append))]
-    pub(crate) fn push_renamed(
-        &self,
-        form: Form,
-        line: &[u8],
-        out: &mut Vec<u8>,
-    ) -> Result<(), AllocError>
+    fn push_words(&self, form: Form, line: &[u8], out: &mut Vec<u8>) -> Result<(), AllocError>
         ensures { form ≡ Form.Frames → OnOk result (marks out.new.items ≡ marks line.now) }
     {
         out.clear();
@@ -237,5 +237,32 @@ impl Names {
             rest = more;
         }
         out.extend_from_slice(rest)
+    }
+
+    /// Makes a line of a timeline, where the label of a thread has its name too.
+    fn push_labelled(&self, form: Form, line: &[u8], out: &mut Vec<u8>) -> Result<(), AllocError> {
+        let Some(label) = self.label_of(form, line) else {
+            return self.push_words(form, line, out);
+        };
+        out.clear();
+        out.extend_from_slice(label.front)?;
+        out.extend_from_slice(b" ")?;
+        push_marked_up(form, label.name, out)?;
+        out.extend_from_slice(label.back)
+    }
+
+    /// Makes a line with names in the place of its addresses, and beside the numbers of threads that label what they did.
+    pub(crate) fn push_renamed(
+        &self,
+        form: Form,
+        line: &[u8],
+        out: &mut Vec<u8>,
+    ) -> Result<(), AllocError>
+        ensures { form ≡ Form.Frames → OnOk result (marks out.new.items ≡ marks line.now) }
+    {
+        match form {
+            Form::Frames => self.push_words(form, line, out),
+            _ => self.push_labelled(form, line, out),
+        }
     }
 }

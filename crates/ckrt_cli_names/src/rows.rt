@@ -6,8 +6,10 @@ use crate::fault::NamesFault;
 use crate::scan::hex_word;
 use std::alloc::Global;
 
-/// What a file of names begins with.
+/// What a file of names begins with: of version 1, and of version 2, which has rules after its rows.
 const MAGIC: &[u8; 13] = b"ckrt-names 1 ";
+
+const MAGIC_WITH_RULES: &[u8; 13] = b"ckrt-names 2 ";
 
 /// Where the length of the image stands.
 const LENGTH_AT: usize = 78;
@@ -36,11 +38,14 @@ pub(crate) struct Row {
 pub(crate) struct Head {
     pub(crate) digest: [u8; 32],
     pub(crate) length: u32,
+    /// Whether there may be rules after the rows.
+    pub(crate) has_rules: bool,
 }
 
 /// The first line.
 pub(crate) fn read_head(bytes: &[u8]) -> Option<Head> {
-    if bytes.len() < HEAD || !bytes.starts_with(MAGIC) {
+    let has_rules = bytes.starts_with(MAGIC_WITH_RULES);
+    if bytes.len() < HEAD || !(has_rules || bytes.starts_with(MAGIC)) {
         return None;
     }
     if bytes[LENGTH_AT - 1] != b' ' || bytes[HEAD - 1] != b'\n' {
@@ -51,7 +56,11 @@ pub(crate) fn read_head(bytes: &[u8]) -> Option<Head> {
         return None;
     }
     let length = hex_word(&bytes[LENGTH_AT..HEAD - 1])?;
-    Some(Head { digest, length })
+    Some(Head {
+        digest,
+        length,
+        has_rules,
+    })
 }
 
 /// Whether the text of a row tells how far from its begin an address is.
@@ -87,7 +96,7 @@ fn read_row(line: &[u8], at: usize) -> Option<Row>
 }
 
 /// How many bytes the line has that stands there.
-fn line_length(bytes: &[u8], at: usize) -> Option<usize>
+pub(crate) fn line_length(bytes: &[u8], at: usize) -> Option<usize>
     requires { at ≤ length bytes.now }
     ensures { IfSome result (λ count. at + count < length bytes.now) }
 {
@@ -95,17 +104,25 @@ fn line_length(bytes: &[u8], at: usize) -> Option<usize>
     rest.iter().position(|byte| *byte == b'\n')
 }
 
-/// The rows from there on.
+/// Whether the line is a row of addresses that stands there.
+fn is_row(bytes: &[u8], at: usize) -> bool
+    requires { at ≤ length bytes.now }
+{
+    let (_, rest) = bytes.split_at(at);
+    kind(rest).is_some()
+}
+
+/// The rows after the first line, and where the first line after them stands, which is none.
 #[tactic(auto, using(crate::proofs::RowLemmas::order_more, crate::proofs::RowLemmas::ends_more))]
-pub(crate) fn read_rows(alloc: Global, bytes: &[u8]) -> Result<Vec<Row>, NamesFault>
-    ensures { IfOk result (λ rows. IsInOrder rows.items) }
+pub(crate) fn read_rows(alloc: Global, bytes: &[u8]) -> Result<(Vec<Row>, usize), NamesFault>
+    ensures { IfOk result (λ found. IsInOrder found.0.items) }
 {
     let mut rows = Vec::new(alloc);
     let mut at = HEAD.min(bytes.len());
     let mut last = 0;
     for _ in 0..bytes.len() {
-        if at >= bytes.len() {
-            return Ok(rows);
+        if at >= bytes.len() || !is_row(bytes, at) {
+            return Ok((rows, at));
         }
         let Some(count) = line_length(bytes, at) else {
             return Err(NamesFault::Row(at as u64));
@@ -122,5 +139,5 @@ pub(crate) fn read_rows(alloc: Global, bytes: &[u8]) -> Result<Vec<Row>, NamesFa
         }
         at += count + 1;
     }
-    Ok(rows)
+    Ok((rows, at))
 }

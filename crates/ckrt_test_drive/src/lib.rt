@@ -30,4 +30,6 @@ mod stops;
 #[cfg(test)]
 mod texts;
 #[cfg(test)]
+mod told;
+#[cfg(test)]
 mod words;

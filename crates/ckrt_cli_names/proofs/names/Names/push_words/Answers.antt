@@ -1,7 +1,7 @@
 use Rattle.std.proofs.Common.{◌∙◌, ◌++◌, ap₂}
 use Rattle.std.proofs.lemmas.List.{take-append-drop}
 use Rattle.ckrt_cli_names.proofs.PutLemmas.{marks_all, marks_left}
-use Rattle.ckrt_cli_names.proofs.names.Names.push_renamed.Goals as goal
+use Rattle.ckrt_cli_names.proofs.names.Names.push_words.Goals as goal
 
 pub loop-preserved : goal.loop-preserved
 loop-preserved c = λ is.
