@@ -198,7 +198,8 @@ const UNFORMATTED: &str =
 
 const FOLDER: &str = "the output .: it is a directory\nckrt: File\n";
 
-const ABSENT_FOLDER: &str = "the output drive_none/out: its folder is missing\nckrt: File\n";
+const ABSENT_FOLDER: &str =
+    "the output drive_none/out: its folder is missing; make it, or give another path\nckrt: File\n";
 
 const ITSELF: &str =
     "the output drive_d.disk: the disk has this path too; give another\nckrt: File\n";

@@ -136,7 +136,8 @@ const BAD_JOURNAL: &str =
 
 const ONE_PATH: &str = "the disk jobs_i.img: the image has this path too\nckrt: File\n";
 
-const NO_FOLDER: &str = "the disk jobs_none/i.disk: its folder is missing\nckrt: File\n";
+const NO_FOLDER: &str =
+    "the disk jobs_none/i.disk: its folder is missing; make it, or give another path\nckrt: File\n";
 
 /// An image is never made a disk, and a missing folder is told as that.
 const REFUSED_PATHS: &[Step] = &[

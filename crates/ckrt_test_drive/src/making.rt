@@ -126,7 +126,7 @@ const LONG_IMAGE: &str =
     "the image making_c.img: it is longer than the guest's memory; take more by --pages\nckrt: ImageTooLong\n";
 
 const NO_FOLDER: &str =
-    "the disk in the making making_none/c.disk.making: its folder is missing\nckrt: File\n";
+    "the disk in the making making_none/c.disk.making: its folder is missing; make it, or give another path\nckrt: File\n";
 
 /// Nothing is left where no disk was made.
 const FAULTS: &[Step] = &[
