@@ -422,7 +422,7 @@ fn hunt_arguments<'a>(alloc: Global) -> Result<Vec<Arg<'a>>, AllocError>
             alloc,
             "pages",
             "64",
-            "Pages of the memory of each run, 16 to 1024"
+            "Pages of the memory of each run, 16 to 65536"
         ),
         number(alloc, "harts", "1", "Harts, 1 to 8"),
         option(

@@ -60,7 +60,7 @@ const BOTH_FORMS: &str = "error: the argument '--folded' cannot be used with '--
 
 /// What follows a number of `hunt` that isn't one.
 const HUNT_USAGE: &str =
-    "Usage: ckrt hunt <IMAGE> [--seeds FIRST-LAST | --seconds 1 to 31536000] [--pages 16 to 1024] [--harts 1 to 8] [--input <FILE>] [--steps NUMBER OF STEPS] [--races] [--ignore-output] [--keep <DISK>] [--progress SECONDS] [--names <FILE>]";
+    "Usage: ckrt hunt <IMAGE> [--seeds FIRST-LAST | --seconds 1 to 31536000] [--pages 16 to 65536] [--harts 1 to 8] [--input <FILE>] [--steps NUMBER OF STEPS] [--races] [--ignore-output] [--keep <DISK>] [--progress SECONDS] [--names <FILE>]";
 
 /// What follows a number of `drive` that isn't one.
 const DRIVE_USAGE: &str =

@@ -137,7 +137,7 @@ numbers_of s = (s.pages, s.harts, s.limit)
 -- the ranges of pages and harts are those of a disk
 abbrev pub shape_of : (pages harts limit : ℕ) → Option (ℕ × ℕ × ℕ)
 shape_of pages harts limit =
-    if nat_le 16 pages && (nat_le pages 1024 && (nat_le 1 harts && nat_le harts 8)) then Some (pages, harts, limit)
+    if nat_le 16 pages && (nat_le pages 65536 && (nat_le 1 harts && nat_le harts 8)) then Some (pages, harts, limit)
     else None
 
 -- a program that is hunted: how many steps and events a run has at most, the state that each begins with, what it is given to read, and

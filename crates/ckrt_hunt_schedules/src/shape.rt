@@ -10,7 +10,7 @@ pub struct Shape {
     pub limit: u32,
     pub ignores_output: bool,
     ghost some_pages: { 16 ≤ pages },
-    ghost few_pages: { pages ≤ 1024 },
+    ghost few_pages: { pages ≤ 65536 },
     ghost some_harts: { 1 ≤ harts },
     ghost few_harts: { harts ≤ 8 },
 }
@@ -20,12 +20,11 @@ impl Shape {
     ghost use Rattle.ckrt_hunt_schedules.specs.Tallies.{numbers_of, shape_of};
 
     /// A program of that many pages and harts, whose runs have at most that many steps and events, and are told apart by their output too.
-    /// None where the pages aren't
-    /// 16 to 1,024, or the harts 1 to 8.
+    /// None where the pages aren't 16 to 65,536, or the harts 1 to 8.
     pub fn new(pages: u32, harts: u32, limit: u32) -> Option<Shape>
         ensures { option_map numbers_of result ≡ shape_of pages harts limit }
     {
-        if 16 <= pages && pages <= 1_024 && 1 <= harts && harts <= 8 {
+        if 16 <= pages && pages <= 65_536 && 1 <= harts && harts <= 8 {
             let harts = harts as usize;
             Some(Shape {
                 pages,

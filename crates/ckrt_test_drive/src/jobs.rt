@@ -127,7 +127,7 @@ fn what_is_shorter_than_any_disk_is_no_formatted_one(rt: HostRuntime) {
 }
 
 const BAD_PAGES: &str =
-    "--pages 15 isn't 16 to 1024: give another, or leave it out\nckrt: BadConfig\n";
+    "--pages 15 isn't 16 to 65536: give another, or leave it out\nckrt: BadConfig\n";
 
 const BAD_HARTS: &str = "--harts 9 isn't 1 to 8: give another, or leave it out\nckrt: BadConfig\n";
 
@@ -268,7 +268,7 @@ fn a_disk_in_use_is_refused(rt: HostRuntime) {
 }
 
 const NUMBER_USAGE: &str =
-    "\nUsage: ckrt format <DISK> <IMAGE> [--pages 16 to 1024] [--harts 1 to 8] [--journal 4096 to 1048576 by 4096]\n";
+    "\nUsage: ckrt format <DISK> <IMAGE> [--pages 16 to 65536] [--harts 1 to 8] [--journal 4096 to 1048576 by 4096]\n";
 
 /// What is wrong with a number that isn't one, and how numbers are given.
 const WRONG_NUMBER: &[Step] = &[Usage("format jobs_h.disk jobs_none.img --pages x", NUMBER_USAGE)];

@@ -120,7 +120,7 @@ const ABSENT: &str = "the disk making_c.disk: there is no such file\nckrt: File\
 const ABSENT_IMAGE: &str = "the image making_none.img: there is no such file\nckrt: File\n";
 
 const BAD_CONFIG: &str =
-    "--pages 15 isn't 16 to 1024: give another, or leave it out\nckrt: BadConfig\n";
+    "--pages 15 isn't 16 to 65536: give another, or leave it out\nckrt: BadConfig\n";
 
 const LONG_IMAGE: &str =
     "the image making_c.img: it is longer than the guest's memory; take more by --pages\nckrt: ImageTooLong\n";

@@ -553,12 +553,12 @@ const UNFIT: &[Told] = &[
     (
         "format d i --pages 15 --harts 9",
         BAD_SIZES,
-        "--pages 15 isn't 16 to 1024: give another, or leave it out\nckrt: BadConfig\n",
+        "--pages 15 isn't 16 to 65536: give another, or leave it out\nckrt: BadConfig\n",
     ),
     (
-        "drive d --pages 1025",
+        "drive d --pages 65537",
         BAD_SIZES,
-        "--pages 1025 isn't 16 to 1024: give another, or leave it out\nckrt: BadConfig\n",
+        "--pages 65537 isn't 16 to 65536: give another, or leave it out\nckrt: BadConfig\n",
     ),
     (
         "drive d --harts 0",

@@ -55,10 +55,10 @@ fn ranges_of_seeds_are_read(rt: HostRuntime) {
 /// Pages, harts and a limit, and whether there is such a shape.
 const SHAPES: [(u32, u32, u32, bool); 9] = [
     (16, 1, 0, true),
-    (1_024, 8, 4_294_967_295, true),
+    (65_536, 8, 4_294_967_295, true),
     (64, 2, 10_000_000, true),
     (15, 1, 1, false),
-    (1_025, 1, 1, false),
+    (65_537, 1, 1, false),
     (16, 0, 1, false),
     (16, 9, 1, false),
     (0, 0, 0, false),

@@ -110,7 +110,7 @@ fn expect_refusal<R: Abort + AllocGlobal>(rt: &R, image: &[u8], config: Config) 
 const REFUSED: &[Config] = &[
     Config { pages: 15, ..SMALL },
     Config {
-        pages: 1_025,
+        pages: 65_537,
         ..SMALL
     },
     Config { harts: 0, ..SMALL },

@@ -88,7 +88,7 @@ fn sizes_are_tested_in_order(rt: HostRuntime) {
     expect_bad(&rt, 16, 1, 4_097);
     expect_bad(&rt, 16, 1, 0);
     expect_bad(&rt, 16, 1, 1_052_672);
-    expect_bad(&rt, 1_025, 1, 4_096);
+    expect_bad(&rt, 65_537, 1, 4_096);
 }
 
 /// The bytes of a disk with an open first gate, and EE after it.
