@@ -19,9 +19,8 @@ use Rattle.ckrt_thread.specs.State.{thread_of}
 use Rattle.ckrt_thread.specs.declared.records.Thread.{Thread}
 use Rattle.ckrt_thread.specs.declared.records.Thread.TheVariants as thread
 use Rattle.ckrt_machine.specs.Steps.{hart_of}
-use Rattle.ckrt_look_steps.specs.Accesses.{fetched, may_access}
 use Rattle.ckrt_gdb_history.specs.Positions.{previous_position, run_in, state_at}
-use Rattle.ckrt_gdb_history.specs.Stops.{HasChanged, HasMet, accesses, accesses_at, accesses_for, accesses_in, accesses_of, bytes_in, first_accesses, has_accessed, is_first, is_seen, is_seen_by, is_under, watched_at, watched}
+use Rattle.ckrt_gdb_history.specs.Stops.{HasMet, accesses, accesses_at, accesses_for, accesses_in, accesses_of, bytes_in, first_accesses, has_accessed, is_first, is_seen, is_seen_by, is_under, watched, widths}
 
 -- it is the first of all
 pub first_here : (w : Watch) (ws : List Watch) (p : Position) (es : List Event) (s : State) → IsMetUnder p es s w → IsFirstMet w (w ∷ ws) p es s
@@ -62,7 +61,7 @@ either false y m e = inr e
 
 module _ (w : Watch) (ws : List Watch) where
   either_seen : (b : Bool) (a : ℕ) (z : Size) (bytes : List ℕ) → is_seen b a z (w ∷ ws) bytes ≡ true → (is_seen b a z (w ∷ []) bytes ≡ true) ⊎ (is_seen b a z ws bytes ≡ true)
-  either_seen b a z bytes e = either (is_under b a z w) (list_any (is_under b a z) ws) (may_access bytes a z) e
+  either_seen b a z bytes e = either (is_under b a z w) (list_any (is_under b a z) ws) _ e
 
   either_by : (i : Option Instr) (r : Registers) (bytes : List ℕ) → is_seen_by i (w ∷ ws) r bytes ≡ true → (is_seen_by i (w ∷ []) r bytes ≡ true) ⊎ (is_seen_by i ws r bytes ≡ true)
   either_by None r bytes e = inl e
@@ -90,7 +89,7 @@ module _ (w : Watch) (ws : List Watch) where
   either_of (Some (thread.Ended v)) bytes e = inl e
   either_of (Some (thread.Live l)) bytes e =
       behind (not (is_immediate l.cancellation)) (accesses (w ∷ ws) l.regs bytes) (accesses (w ∷ []) l.regs bytes) (accesses ws l.regs bytes)
-      (either_by (fetched bytes l.regs.pc) l.regs bytes) e
+      (either_by _ l.regs bytes) e
 
   either_for : (o : Option ℕ) (s : State) → accesses_for (w ∷ ws) o s ≡ true → (accesses_for (w ∷ []) o s ≡ true) ⊎ (accesses_for ws o s ≡ true)
   either_for None s e = inl e
@@ -124,3 +123,9 @@ rest_met [] d p es s some met none = absurd (omega (arith, some))
 rest_met (w ∷ ws) d p es s some met none =
     let all : take (length (w ∷ ws) - 1) ws ≡ ws = take_all (length (w ∷ ws) - 1) ws (omega arith) in
     subst (λ (vs : List Watch). HasMet vs p es s) (sym all) (met_later w ws p es s met none)
+
+pub rest_width : (ws : List Watch) → 1 ≤ length ws → widths ws ≤ 256 → widths (take (length ws - 1) (drop 1 ws)) ≤ 256
+rest_width [] some few = absurd (omega (arith, some))
+rest_width (w ∷ ws) some few =
+    let all : take (length (w ∷ ws) - 1) ws ≡ ws = take_all (length (w ∷ ws) - 1) ws (omega arith) in
+    subst (λ (vs : List Watch). widths vs ≤ 256) (sym all) (omega (arith, few))

@@ -66,7 +66,7 @@ fn word_at(history: &History, address: u32) -> u32 {
 
 /// What a word loads or stores (unprivileged manual, section 2.6): whether it stores, its base, its offset, and how many bytes.
 fn access_of(word: u32) -> Option<(bool, u8, u32, u32)> {
-    let base = (word >> 15) as u8 % 32;
+    let base = ((word >> 15) % 32) as u8;
     let bytes = match (word >> 12) % 4 {
         0 => 1,
         1 => 2,
