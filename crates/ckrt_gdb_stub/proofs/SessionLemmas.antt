@@ -1,5 +1,5 @@
 -- What a session answers, by what is asked.
-use Rattle.std.proofs.Common.{◌≡◌, ◌⊎◌, inr, ℕ, Bool, true, false, Option, Some, None, List, refl, sym, ap, subst}
+use Rattle.std.proofs.Common.{◌≡◌, ◌⊎◌, ◌↔◌, IsTrue, inr, ℕ, Bool, true, false, Option, Some, None, List, refl, sym, ap, subst}
 use Rattle.std.proofs.lemmas.Bool.{false≢true}
 use Rattle.std.specs.Prelude.{IfErr, IfOk, IfSome, IsErrOf, Result, Ok, Err, is_some}
 use Rattle.ckrt_gdb_packets.specs.declared.request.Request.{Request}
@@ -9,9 +9,9 @@ use Rattle.ckrt_gdb_stub.specs.declared.fault.DebugFault.TheVariants.{OutOfMemor
 use Rattle.ckrt_gdb_stub.specs.declared.stub.Stub.{Stub}
 use Rattle.ckrt_gdb_playback.specs.Look.{fitting}
 use Rattle.ckrt_gdb_history.specs.Positions.{History}
-use Rattle.ckrt_gdb_playback.specs.Playback.{HasPlace, history_of}
+use Rattle.ckrt_gdb_playback.specs.Playback.{HasPlace, history_of, position_of}
 use Rattle.ckrt_gdb_playback.specs.Requests.{last_text}
-use Rattle.ckrt_gdb_stub.specs.Session.{AnswersBy, HasMoved, IsOfRun, IsOutside, IsSame, Reaches}
+use Rattle.ckrt_gdb_stub.specs.Session.{AnswersBy, HasGone, HasMoved, IsOfRun, IsOutside, IsReplayed, IsSame, Reaches}
 use Rattle.ckrt_gdb_playback.proofs.MotionLemmas.{is_run, moved_run}
 
 pub same : (s : Stub) → IsSame s s
@@ -62,3 +62,11 @@ not_reached begin k first h old new is_there begins off first_is run reaches =
     let never = (subst (λ b. Reaches k 0 old b new) off reaches).0 in
     let from : HasPlace first k 0 (history_of old.playback) → ⊥ = subst (λ f. HasPlace f k 0 (history_of old.playback) → ⊥) first_is never in
     subst (λ o. IsOutside o first h) (sym begins) (subst (λ (x : History). HasPlace first k 0 x → ⊥) run from)
+
+-- where a session has gone, or that there is no such place
+pub reaches : (b : Bool) (events steps : ℕ) (old new : Stub) → (IsTrue b ↔ HasPlace old.desk.first events steps (history_of old.playback))
+    → (b ≡ true → HasGone (position_of old.desk.first events steps) old new) → (b ≡ false → IsReplayed old new × IsSame old new) → Reaches events steps old b new
+reaches true events steps old new has there nowhere = (has.0 refl, there refl)
+reaches false events steps old new has there nowhere =
+    let is = nowhere refl in
+    ((λ place. absurd (let yes : false ≡ true = has.1 place in cc)), is.0, is.1)

@@ -53,13 +53,10 @@ fn burst_from<R: Abort>(
 fn a_burst_goes_over_the_last_decoded_word(rt: HostRuntime) {
     let words = [adding(1), adding(2), adding(4), adding(8), ECALL];
     let mut memory = memory_with(&rt, BORDER - 8, &words);
-    let sums = [0, 1, 3, 7, 15];
     for round in 0..2 {
-        let mut limit = 0;
-        for sum in sums {
+        for (limit, sum) in [(0, 0), (1, 1), (2, 3), (3, 7), (4, 15)] {
             let got = burst_from(&rt, &mut memory, BORDER - 8, limit);
             expect_eq_at(&rt, (round, limit), got, (0, Outcome::Next, sum));
-            limit += 1;
         }
         let got = burst_from(&rt, &mut memory, BORDER - 8, 100);
         expect_eq_at(&rt, round, got, (96, Outcome::Call, 15));
@@ -101,34 +98,25 @@ fn after_the_last_word_there_is_none(rt: HostRuntime) {
     expect_eq(&rt, stored, false);
 }
 
-/// The pages from 1 on that are dirty for area 0, in a memory of 65,536 pages that was clean before stores to these addresses.
-fn dirty_after<R: Abort + AllocGlobal>(rt: &R, addresses: &[u32]) -> Vec<u32> {
-    let mut memory = memory_with(rt, 0x1000, &[]);
-    memory.clean(0);
-    for address in addresses {
-        assert!(rt; Size::Word.is_aligned(*address));
-        memory.store(*address, Size::Word, 1);
+/// Pages on both sides of the border, and at both ends.
+const LOOKED_AT: [u32; 9] = [1, 1_021, 1_022, 1_023, 1_024, 1_025, 1_026, 65_534, 65_535];
+
+/// Of these pages just those are dirty for area 0.
+fn expect_dirty<R: Abort>(rt: &R, memory: &Memory, pages: &[u32]) {
+    assert!(rt; memory.pages() == 65_536);
+    for page in LOOKED_AT {
+        assert!(rt; page < 65_536);
+        expect_eq_at(rt, page, memory.dirty(0, page), pages.contains(&page));
     }
-    let mut found = Vec::new(rt.alloc());
-    let mut page = 1;
-    while page < 65_536 {
-        assert!(rt; memory.pages() == 65_536);
-        page = memory.next_dirty(0, page, 65_536);
-        if page < 65_536 {
-            found.push(page).expect(rt, "memory for numbers");
-        }
-        page = page.saturating_add(1);
-    }
-    found
 }
 
 #[test]
 fn a_store_makes_its_page_dirty_wherever_it_is(rt: HostRuntime) {
-    let stores = [BORDER - 8192, BORDER - 4, BORDER, BORDER + 4096, END - 4];
-    let found = dirty_after(&rt, &stores);
-    expect_eq(
-        &rt,
-        found.as_slice(),
-        [1_022, 1_023, 1_024, 1_025, 65_535].as_slice(),
-    );
+    let mut memory = memory_with(&rt, 0x1000, &[]);
+    expect_dirty(&rt, &memory, &LOOKED_AT);
+    memory.clean(0);
+    for address in [BORDER - 8192, BORDER - 4, BORDER, BORDER + 4096, END - 4] {
+        put_words(&rt, &mut memory, address, &[1]);
+    }
+    expect_dirty(&rt, &memory, &[1_022, 1_023, 1_024, 1_025, 65_535]);
 }
