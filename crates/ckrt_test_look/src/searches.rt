@@ -94,7 +94,7 @@ fn is_seen(history: &History, watch: Option<Watch>) -> bool {
     let Some(regs) = history.machine().tables().threads.regs(thread) else {
         return false;
     };
-    let first = regs.get(base).wrapping_add(offset);
+    let first = regs.get(base % 32).wrapping_add(offset);
     let is_of_kind = match watch.kind {
         WatchKind::Changes => false,
         WatchKind::Loads => !stores,

@@ -20,6 +20,6 @@ pub record SavedWitness (version harts : ℕ) (bytes torn : List ℕ) : Type 0 w
 -- How many pages and harts a program has that can be saved before it begins.
 pub record FreshWitness (pages harts : ℕ) : Type 0 where
   pub some_pages : 16 ≤ pages
-  pub few_pages : pages ≤ 1024
+  pub few_pages : pages ≤ 65536
   pub some_harts : 1 ≤ harts
   pub few_harts : harts ≤ 8

@@ -116,7 +116,7 @@ class Formatted(unittest.TestCase):
             self.assertEqual(found, refusal)
         with self.assertRaisesRegex(Unformatted, "AlreadyFormatted"):
             format_onto(MemoryDisk(format_disk(SMALL, b"")), SMALL, b"")
-        for wrong in (Geometry(15, 1, 4096), Geometry(16, 9, 4096), Geometry(16, 1, 4097), Geometry(1025, 1, 4096)):
+        for wrong in (Geometry(15, 1, 4096), Geometry(16, 9, 4096), Geometry(16, 1, 4097), Geometry(65537, 1, 4096)):
             with self.assertRaisesRegex(Unformatted, "BadConfig"):
                 format_onto(MemoryDisk(bytearray(1)), wrong, bytes(99999999))
 

@@ -20,11 +20,14 @@ returns-clause-reached c =
       first = gone.kept.1;
       recorded = gone.kept.2;
     })
-    (λ no. (replayed, record {
-      history = (gone.nowhere no).0 ∙ played;
-      view = (gone.nowhere no).1;
-      stops = gone.stops;
-      bounds_are = gone.kept.0;
-      first = gone.kept.1;
-      recorded = gone.kept.2;
-    }))
+    (λ no. (
+      replayed,
+      record {
+        history = (gone.nowhere no).0 ∙ played;
+        view = (gone.nowhere no).1;
+        stops = gone.stops;
+        bounds_are = gone.kept.0;
+        first = gone.kept.1;
+        recorded = gone.kept.2;
+      },
+    ))
