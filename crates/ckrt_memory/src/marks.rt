@@ -1,4 +1,4 @@
-//! The marks of pages: a byte for each page, with a bit for each area.
+//! The marks of pages: a byte for each page, with a bit for each area, and one for what a burst has noted.
 ghost use Rattle.std.specs.Prelude.{◌≡◌, ◌≢◌, ◌+◌, ◌/◌, ◌%◌, ◌^◌, ◌<◌, ◌≤◌, ℕ, length, slice_index, true, false, []};
 ghost use Rattle.ckrt_memory.specs.Marks.{has_bit, IsNextDirty};
 
@@ -8,10 +8,13 @@ pub const PAGES_LIMIT: usize = 65_536;
 /// How many marks are looked at together.
 const GROUP: usize = 32;
 
-/// Whether a mark has the bit of an area.
+/// The bit of a mark that is for neither area: whether a store may have been to the page since a burst last noted what stands there.
+pub const SINCE_NOTED: usize = 2;
+
+/// Whether a mark has the bit of an area, or `SINCE_NOTED`.
 #[inline(always)]
 pub fn has_bit(mark: u8, area: usize) -> bool
-    requires { area ≤ 1 }
+    requires { area ≤ 2 }
     ensures { result ≡ has_bit area mark }
 {
     (mark >> area) % 2 == 1
