@@ -158,7 +158,8 @@ impl Machine {
         }
     }
 
-    /// Applies an event that would be accepted if no output were held. A page whose mark is changed was stored to by a step.
+    /// Applies an event that would be accepted if no output were held. A page whose mark for an area is changed was stored to
+    /// by a step.
     pub fn step(&mut self, event: &Event) -> Answer
         requires in_range { IsInRange event.now }
         requires accepted { refusal_of 0 event.now self.old.state ≡ None }
@@ -202,7 +203,7 @@ impl Machine {
     }
 
     /// Goes on with a run that was cut: that many steps more at most of the thread on the hart, after the bytes that the run has
-    /// put. The result is how many of them are left, and how the run ended. A page whose mark is changed was stored to.
+    /// put. The result is how many of them are left, and how the run ended. A page whose mark for an area is changed was stored to.
     pub fn go_on(&mut self, hart: Hart, limit: u32) -> (u32, RunEnd)
         requires { stop_of hart self.old.state.tables self.old.output ≡ None }
         ensures within { result.0 ≤ limit }
@@ -228,7 +229,7 @@ impl Machine {
 
     /// Goes on as [`Machine::go_on`] does, and ends before a step, too, before which the reason to stop is met with the registers
     /// of the thread on the hart and the bytes: before the first, where the machine stands, too, and not behind the last. The
-    /// result is how many steps are left, and how the run ended, or none where the reason is met. A page whose mark is
+    /// result is how many steps are left, and how the run ended, or none where the reason is met. A page whose mark for an area is
     /// changed is one to which a run of `limit` would store.
     pub fn go_on_to<R: StopReason>(
         &mut self,

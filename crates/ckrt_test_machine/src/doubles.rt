@@ -146,3 +146,53 @@ fn doubles_with_a_word_changed(rt: HostRuntime) {
         }
     }
 }
+
+/// A guest that changes a sum while it runs: it adds, stores over a word of the sum's routine, multiplies by the routine on the same
+/// page, and adds again.
+const CHANGES_A_SUM: [u32; 5] = [
+    0x0000_10ef, // 1000: jal x1, 0x2000
+    0x014a_a023, // 1004: sw x20, 0(x21)
+    0x3f80_10ef, // 1008: jal x1, 0x2400
+    0x7f50_00ef, // 100c: jal x1, 0x2000
+    CALL, // 1010
+];
+
+const RETURN: u32 = 0x0000_8067;
+
+/// Words from an address on, and a return behind them.
+fn put_returning<R: Abort>(rt: &R, memory: &mut Memory, from: u32, words: &[u32]) {
+    let mut address = from;
+    for word in words {
+        store(rt, memory, address, *word);
+        address = address.wrapping_add(4);
+    }
+    store(rt, memory, address, RETURN);
+}
+
+/// The guest, and its two routines.
+fn put_changing<R: Abort>(rt: &R, memory: &mut Memory) {
+    clear(rt, memory, 1);
+    clear(rt, memory, 2);
+    put_returning(rt, memory, 0x1000, &CHANGES_A_SUM);
+    put_returning(rt, memory, 0x2000, words(DoubleRoutine::Sum));
+    put_returning(rt, memory, 0x2400, words(DoubleRoutine::Product));
+}
+
+/// In a burst, the routine whose word at an address was changed does what it does step by step.
+fn expect_changed<R: Abort>(rt: &R, memory: &mut Memory, other: &mut Memory, address: u32) {
+    put_changing(rt, memory);
+    put_changing(rt, other);
+    let mut regs = registers_of(1, 5);
+    regs.put(20, 0x0000_0013); // addi x0, x0, 0
+    regs.put(21, address);
+    expect_same_for(rt, (memory, other), regs, 65_535, 4 * MOST);
+}
+
+#[test]
+fn sum_changed_beside_a_product(rt: HostRuntime) {
+    let mut memory = new_memory(&rt);
+    let mut other = new_memory(&rt);
+    for word in 0..112 {
+        expect_changed(&rt, &mut memory, &mut other, 0x2000 + 4 * word);
+    }
+}
