@@ -39,13 +39,13 @@ returns-then-immediate-clause-rest c = λ none.
 pub returns-then-left-eq0-clause-follows : goal.returns-then-left-eq0-clause-follows
 returns-then-left-eq0-clause-follows c = record {
   follows = c.burst-left.ensures.follows;
-  only = λ p other. turn_stores _ _ _ _ _ _ _ (record { on = c.runner-thread.ensures.on; live = c.live-live.ensures.thread; going = c.requires.going }) (sym c.is_immediate-immediate.ensures ∙ c.if-immediate.false) (small_memory _ c.known.ensures) p (c.burst-left.ensures.only p other);
+  only = λ area p low other. turn_stores _ _ _ _ _ _ _ (record { on = c.runner-thread.ensures.on; live = c.live-live.ensures.thread; going = c.requires.going }) (sym c.is_immediate-immediate.ensures ∙ c.if-immediate.false) (small_memory _ c.known.ensures) p (c.burst-left.ensures.only area p low other);
 }
 
 pub returns-clause-follows : goal.returns-clause-follows
 returns-clause-follows c = record {
   follows = c.burst-left.ensures.follows;
-  only = λ p other. turn_stores _ _ _ _ _ _ _ (record { on = c.runner-thread.ensures.on; live = c.live-live.ensures.thread; going = c.requires.going }) (sym c.is_immediate-immediate.ensures ∙ c.if-immediate.false) (small_memory _ c.known.ensures) p (c.burst-left.ensures.only p other);
+  only = λ area p low other. turn_stores _ _ _ _ _ _ _ (record { on = c.runner-thread.ensures.on; live = c.live-live.ensures.thread; going = c.requires.going }) (sym c.is_immediate-immediate.ensures ∙ c.if-immediate.false) (small_memory _ c.known.ensures) p (c.burst-left.ensures.only area p low other);
 }
 
 pub returns-clause-rest : goal.returns-clause-rest

@@ -41,7 +41,7 @@ returns-then-left-eq0-clause-run g c =
 pub returns-then-left-eq0-clause-follows : goal.returns-then-left-eq0-clause-follows
 returns-then-left-eq0-clause-follows g c = record {
   follows = c.burst_to-left.ensures.follows;
-  only = λ p other. turn_stores _ _ _ _ _ _ _ (record { on = c.runner-thread.ensures.on; live = c.live-live.ensures.thread; going = c.requires.going }) (sym c.is_immediate-immediate.ensures ∙ c.if-immediate.false) (small_memory _ c.known.ensures) p (c.burst_to-left.ensures.only p other);
+  only = λ area p low other. turn_stores _ _ _ _ _ _ _ (record { on = c.runner-thread.ensures.on; live = c.live-live.ensures.thread; going = c.requires.going }) (sym c.is_immediate-immediate.ensures ∙ c.if-immediate.false) (small_memory _ c.known.ensures) p (c.burst_to-left.ensures.only area p low other);
 }
 
 pub returns-in-Next-clause-less : goal.returns-in-Next-clause-less
@@ -54,7 +54,7 @@ returns-in-Next-clause-less g c = λ _.
 pub returns-in-Next-clause-follows : goal.returns-in-Next-clause-follows
 returns-in-Next-clause-follows g c = record {
   follows = c.burst_to-left.ensures.follows;
-  only = λ p other. turn_stores _ _ _ _ _ _ _ (record { on = c.runner-thread.ensures.on; live = c.live-live.ensures.thread; going = c.requires.going }) (sym c.is_immediate-immediate.ensures ∙ c.if-immediate.false) (small_memory _ c.known.ensures) p (c.burst_to-left.ensures.only p other);
+  only = λ area p low other. turn_stores _ _ _ _ _ _ _ (record { on = c.runner-thread.ensures.on; live = c.live-live.ensures.thread; going = c.requires.going }) (sym c.is_immediate-immediate.ensures ∙ c.if-immediate.false) (small_memory _ c.known.ensures) p (c.burst_to-left.ensures.only area p low other);
 }
 
 pub returns-in-Next-clause-rest : goal.returns-in-Next-clause-rest
@@ -83,7 +83,7 @@ returns g c =
       going = λ none. none_of _ (subst (λ (o : Option RunEnd). is_some o ≡ false) c.stop-2.ensures none);
       follows = record {
         follows = c.burst_to-left.ensures.follows;
-        only = λ p other. turn_stores _ _ _ _ _ _ _ begins imm (small_memory _ c.known.ensures) p (c.burst_to-left.ensures.only p other);
+        only = λ area p low other. turn_stores _ _ _ _ _ _ _ begins imm (small_memory _ c.known.ensures) p (c.burst_to-left.ensures.only area p low other);
       };
       rest = λ none.
           rw c.put_byte.ensures
