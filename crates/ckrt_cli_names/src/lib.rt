@@ -2,6 +2,7 @@
 #![tactic(auto)]
 
 mod fault;
+mod follower;
 mod labels;
 mod named;
 mod names;
@@ -11,10 +12,8 @@ mod rows;
 mod rules;
 mod scan;
 mod told;
-mod unflushed;
 
 pub use fault::NamesFault;
 pub use named::NamedWriter;
 pub use names::{Names, SIZE_LIMIT};
 pub use piece::{Form, Piece};
-pub use unflushed::Unflushed;

@@ -184,6 +184,7 @@ impl<W: Write> NamedWriter<W> {
         if self.is_begun {
             self.note.clear();
         } else {
+            self.names.follow_line(&self.line);
             self.names.push_note(&self.line, &mut self.note);
         }
     }

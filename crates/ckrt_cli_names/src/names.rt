@@ -3,11 +3,12 @@ ghost use Rattle.std.specs.Prelude.{◌≡◌, ◌<◌, ◌↔◌, [], IsTrue, I
 ghost use Rattle.ckrt_cli_names.specs.Rows.{HasNone, IsInOrder, LiesIn, bytes_of, rows_of};
 
 use crate::fault::NamesFault;
+use crate::follower::Follower;
 use crate::renamed::push_offset;
 use crate::rows::{Head, Row, read_head, read_rows};
 use crate::rules::Rules;
 use crate::scan::{MOST, Scan, most_of};
-use crate::told::Told;
+use crate::told::{End, Told, end_of, push_mark};
 use std::alloc::{AllocError, Global};
 
 /// The names of a program's addresses.
@@ -19,6 +20,12 @@ pub struct Names {
     pub(crate) rules: Rules,
     /// What is told of threads.
     pub(crate) told: Vec<Told>,
+    /// The thread that ended the program by a call.
+    pub(crate) ended_by: Option<u8>,
+    /// A recording that is made beside the lines.
+    pub(crate) follower: Option<Follower>,
+    /// What is told of the thread of a line, where that recording stands.
+    pub(crate) there: Option<Told>,
 }
 
 /// What is named of an address.
@@ -35,7 +42,7 @@ pub(crate) struct Place<'a> {
 pub const SIZE_LIMIT: usize = 67_108_864;
 
 /// How many bytes a note has at most.
-const NOTE_LIMIT: usize = 4_096;
+pub(crate) const NOTE_LIMIT: usize = 4_096;
 
 impl Names {
     /// No names.
@@ -52,6 +59,9 @@ impl Names {
             rows: Vec::new(alloc),
             rules: Rules::none(alloc),
             told: Vec::new(alloc),
+            ended_by: None,
+            follower: None,
+            there: None,
         }
     }
 
@@ -78,6 +88,9 @@ impl Names {
             rows,
             rules,
             told: Vec::new(alloc),
+            ended_by: None,
+            follower: None,
+            there: None,
         })
     }
 
@@ -157,24 +170,25 @@ impl Names {
         if note.len() >= NOTE_LIMIT || place.text.len() > NOTE_LIMIT {
             return Ok(());
         }
-        note.extend_from_slice(if note.is_empty() {
-            b"    # ".as_slice()
-        } else {
-            b"; ".as_slice()
-        })?;
+        push_mark(note)?;
         note.extend_from_slice(place.text)?;
         push_offset(place.offset, note)
     }
 
-    /// Puts the texts of a line's addresses into a note.
-    fn push_places(&self, line: &[u8], note: &mut Vec<u8>) -> Result<(), AllocError> {
+    /// Puts the texts of a line's addresses into a note, behind the first so many.
+    fn push_places(
+        &self,
+        line: &[u8],
+        passed: usize,
+        note: &mut Vec<u8>,
+    ) -> Result<(), AllocError> {
         let mut scan = Scan::new(line);
         let mut seen = [0u32; MOST];
         for index in 0..most_of(line) {
             let Some(address) = scan.next_address() else {
                 return Ok(());
             };
-            if !seen[..index].contains(&address) {
+            if index >= passed && !seen[..index].contains(&address) {
                 self.push_place(address, note)?;
             }
             seen[index] = address;
@@ -182,10 +196,38 @@ impl Names {
         Ok(())
     }
 
-    /// Puts what is told of a line into a note: of its thread, or else the texts of its addresses.
+    /// Puts what is told of a fault into a note: of its thread, in place of the text of its pc, which is the line's first address; and the
+    /// texts of the others.
+    fn push_faulted(
+        &self,
+        line: &[u8],
+        thread: u8,
+        note: &mut Vec<u8>,
+    ) -> Result<(), AllocError> {
+        let is_told = self.push_fault(thread, note)?;
+        self.push_places(line, usize::from(is_told), note)
+    }
+
+    /// Puts the texts of a line's addresses into a note, and what is told of the thread of its step.
+    fn push_stepped(&self, line: &[u8], note: &mut Vec<u8>) -> Result<(), AllocError> {
+        self.push_places(line, 0, note)?;
+        self.push_there(note)
+    }
+
+    /// Puts what is told of a line into a note: how the program ended, or the texts of its addresses.
+    fn push_ended(&self, line: &[u8], note: &mut Vec<u8>) -> Result<(), AllocError> {
+        match end_of(line) {
+            End::Deadlock => self.push_all(note),
+            End::Exit => self.push_exit(note),
+            End::Fault(thread) => self.push_faulted(line, thread, note),
+            End::None => self.push_stepped(line, note),
+        }
+    }
+
+    /// Puts what is told of a line into a note: of its thread, where that is known of a listing.
     fn push_told(&self, line: &[u8], note: &mut Vec<u8>) -> Result<(), AllocError> {
         let Some(told) = self.told_behind(line) else {
-            return self.push_places(line, note);
+            return self.push_ended(line, note);
         };
         if told.is_empty() {
             return Ok(());
