@@ -45,8 +45,10 @@ fn tell_threads(alloc: Global, machine: &Machine, names: &mut Names) -> Result<(
 
 /// Whether a thread with these registers has just made the call by which a program ends.
 fn has_exited(memory: &Memory, regs: &Regs) -> bool {
-    matches!(Call::from_number(regs.get(17)), Some(Call::Process(ProcessCall::Exit)))
-        && regs.pc() % 4 == 0
+    matches!(
+        Call::from_number(regs.get(17)),
+        Some(Call::Process(ProcessCall::Exit))
+    ) && regs.pc() % 4 == 0
         && memory.load(regs.pc().wrapping_sub(4), Size::Word) == Some(ECALL)
 }
 

@@ -198,12 +198,7 @@ impl Names {
 
     /// Puts what is told of a fault into a note: of its thread, in place of the text of its pc, which is the line's first address; and the
     /// texts of the others.
-    fn push_faulted(
-        &self,
-        line: &[u8],
-        thread: u8,
-        note: &mut Vec<u8>,
-    ) -> Result<(), AllocError> {
+    fn push_faulted(&self, line: &[u8], thread: u8, note: &mut Vec<u8>) -> Result<(), AllocError> {
         let is_told = self.push_fault(thread, note)?;
         self.push_places(line, usize::from(is_told), note)
     }

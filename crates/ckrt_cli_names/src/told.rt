@@ -280,10 +280,7 @@ impl Names {
 
     /// Whether an address is one of the kit's code.
     fn is_kit(&self, address: u32) -> bool {
-        self.rules
-            .kit
-            .iter()
-            .any(|stretch| stretch.begin <= address && address < stretch.end)
+        self.rules.kit.iter().any(|stretch| stretch.begin <= address && address < stretch.end)
     }
 
     /// What is told of a thread, of which its frame is known.

@@ -308,7 +308,10 @@ const ENDS: [(&[u8], &[u8]); 9] = [
         b"ended: fault 4 00001004 StoreRange 00001008",
         b"    # main at a.c:3; worker at a.c:9",
     ),
-    (b"ended: exit 3", b"    # left, in lock, called at a.c:9, in worker"),
+    (
+        b"ended: exit 3",
+        b"    # left, in lock, called at a.c:9, in worker",
+    ),
     (b"ended: waits for input", b""),
     (b"deadlock 00001004", b"    # main at a.c:3"),
     (b"7+12 thread 1 exit(3) = ?", b""),
