@@ -7,16 +7,15 @@ It makes the settings of ckrt.gdb, which lies beside. `step` goes over the kit's
 threads have the names that the guest gave them, as they are at each stop. `backtrace` leaves out frames of the kit. Where PROGRAM.elf has
 other code than the guest's memory, it warns.
 """
-import re
+import sys
 from pathlib import Path
 
 import gdb
 from gdb.FrameDecorator import FrameDecorator
 
+sys.dont_write_bytecode = True
 HERE = Path(__file__).resolve().parent
 KIT = "guest/source/*", "guest/files/*", "guest/arithmetic/*"  # as the kit's compiler names its sources
-# where sources lie that aren't the user's, as guest/program.py has it
-NOT_THE_USERS = re.compile(r"guest/(source|files|arithmetic|include)/|guest/spurious[.]c|.*/newlib/lib[cm]/|.*/libgcc/|.*/picolibc/.*/include/")
 NAMES = "'guest/source/thread.c'::threads"  # each thread's record in the kit, by its number
 
 
@@ -28,8 +27,9 @@ def set_up():
     if (HERE.parent / "guest/source").is_dir():
         # last, so that a file of the program is found first
         gdb.execute(f"set directories {gdb.parameter('directories')}:{HERE.parent}")
-    frames = WithoutKit()
-    gdb.frame_filters[frames.name] = frames
+    if pattern := others_pattern():
+        frames = WithoutKit(pattern)
+        gdb.frame_filters[frames.name] = frames
     for events in gdb.events.stop, gdb.events.before_prompt:
         events.connect(lambda *_: look())
     look()  # at a core, which is there already
@@ -41,17 +41,30 @@ def look():
     check_program()
 
 
+def others_pattern():
+    """How places in sources begin that aren't the user's, as the tools of the kit know them; None where the kit isn't there."""
+    folder = str(HERE.parent / "guest")
+    sys.path.insert(0, folder)
+    try:
+        from program import KIT as pattern
+    except ImportError:
+        return None
+    finally:
+        sys.path.remove(folder)
+    return pattern
+
+
 class WithoutKit:
     """A filter of gdb for the frames that `backtrace` prints. `backtrace -no-filters` prints all."""
 
-    def __init__(self):
-        self.name, self.priority, self.enabled = "without-kit", 100, True
+    def __init__(self, pattern):
+        self.name, self.priority, self.enabled, self.pattern = "without-kit", 100, True, pattern
 
     def filter(self, frames):
         """The user's frames, and of the kit's in a row that which the user's function called. All, where none is the user's."""
         row, has_own = [], False
         for frame in frames:
-            if is_kit(frame.inferior_frame()):
+            if self.is_kit(frame.inferior_frame()):
                 row.append(frame)
             else:
                 yield from row[-1:]
@@ -60,13 +73,12 @@ class WithoutKit:
         if not has_own:
             yield from map(Unnamed, row)
 
-
-def is_kit(frame):
-    """Whether a frame isn't one of the user's functions: by the file of its function, or since none is known. One without lines is the user's."""
-    symtab = frame.function().symtab if frame.function() else frame.find_sal().symtab
-    if symtab:
-        return bool(NOT_THE_USERS.match(symtab.filename.removeprefix("./")))
-    return not frame.name()
+    def is_kit(self, frame):
+        """Whether a frame isn't one of the user's functions: by the file of its function, or since none is known. One without lines is the user's."""
+        symtab = frame.function().symtab if frame.function() else frame.find_sal().symtab
+        if symtab:
+            return bool(self.pattern.match(symtab.filename.removeprefix("./") + ":"))
+        return not frame.name()
 
 
 class Unnamed(FrameDecorator):
