@@ -5,10 +5,11 @@
 mod asked;
 mod beside;
 mod giving;
+mod kept;
 mod threads;
 
 use asked::{form_of, names_asked};
-use beside::{Beside, Refusal, Trouble};
+use beside::{Beside, Refusal, Trouble, copy_of};
 use ckrt_cli::run_words;
 use ckrt_cli_files::{OutputReason, SystemSources, ToldWriter};
 use ckrt_cli_names::{Form, NamedWriter, Names};
@@ -16,6 +17,7 @@ use ckrt_cli_reports::{SystemMeter, WrittenReport};
 use ckrt_cli_words::{Job, read_names, read_words};
 use ckrt_disk::Calls;
 use giving::Giving;
+use kept::KeptWriter;
 use std::cell::Cell;
 use std::env;
 use std::io::{self, ErrorKind, Write};
@@ -42,6 +44,18 @@ fn write_report(rt: &HostRuntime, task: Task<'_, '_>, status: u8, names: Names, 
     let _ = report.flush();
 }
 
+/// The names that a hunt prints with, once more; none for another job, or where memory is refused.
+fn names_of_kept(rt: &HostRuntime, task: Task<'_, '_>, printed: &Names) -> Names {
+    let alloc = rt.alloc();
+    if !matches!(task.job, Some(Job::Hunt(_))) {
+        return Names::none(alloc);
+    }
+    match copy_of(alloc, printed) {
+        Ok(bytes) => Names::parse(alloc, bytes).unwrap_or(Names::none(alloc)),
+        Err(_) => Names::none(alloc),
+    }
+}
+
 /// The job of these words on the standard streams; the answer is the program's status.
 fn run<'a>(
     rt: &'a HostRuntime,
@@ -50,7 +64,9 @@ fn run<'a>(
     reported: Names,
 ) -> u8 {
     let told = ToldWriter::new(io::writer(rt), task.why);
-    let mut writer = NamedWriter::in_form(rt.alloc(), printed, form, told);
+    let again = names_of_kept(rt, task, &printed);
+    let named = NamedWriter::in_form(rt.alloc(), printed, form, told);
+    let mut writer = KeptWriter::new(rt, task.why, again, named);
     let mut reporter = WrittenReport::new(Vec::new(rt.alloc()));
     let status = run_words::<HostRuntime, Brand, _, _, _, _>(
         rt.alloc(),

@@ -1,6 +1,6 @@
 //! What is told of the threads of a disk: in a listing, a timeline and by calls read from the disk before that is made, and of a drive's end
 //! behind it.
-use ckrt_calls::{Call, ProcessCall};
+use ckrt_calls::{Call, ProcessCall, Status};
 use ckrt_cli_files::{Closes, OutputReason, RealDisk, Sources, SystemSources};
 use ckrt_cli_names::Names;
 use ckrt_cli_words::Job;
@@ -76,6 +76,23 @@ fn tell_end(alloc: Global, machine: &Machine, names: &mut Names) -> Result<(), A
     tell_threads(alloc, machine, names)
 }
 
+/// The line of a drive's end by this status, as far as its note hangs on it.
+fn end_line(alloc: Global, status: Status) -> Result<String, AllocError> {
+    match status {
+        Status::Running => format!(in alloc; "deadlock"),
+        Status::Exited(code) => format!(in alloc; "ended: exit {code}"),
+        Status::Faulted(thread, _, _) => format!(in alloc; "ended: fault {thread} "),
+    }
+}
+
+/// The note of how a program ended.
+fn note_of(alloc: Global, machine: &Machine, names: &mut Names) -> Result<Vec<u8>, AllocError> {
+    names.forget_threads();
+    tell_end(alloc, machine, names)?;
+    let line = end_line(alloc, machine.tables().status)?;
+    Ok(names.note_of(alloc, line.as_bytes()))
+}
+
 /// Tells what is looked for of a disk. Where that can't be read nothing is told.
 fn tell_of<D: Disk>(
     alloc: Global,
@@ -135,6 +152,30 @@ fn tell<'a>(
     let told = tell_of(rt.alloc(), &mut disk, look, names);
     sources.close(disk);
     told
+}
+
+/// The note of how the program of a disk ended: where each thread stands, where it didn't end. Where the disk can't be read there is none.
+pub fn note_of_end(
+    rt: &HostRuntime,
+    why: &Cell<OutputReason>,
+    path: &str,
+    names: &mut Names,
+) -> Vec<u8> {
+    let alloc = rt.alloc();
+    let mut sources: SystemSources<'_, HostRuntime, RealDisk<'_, Brand>> = SystemSources::new(
+        rt,
+        why,
+        Calls::new(),
+    );
+    let Ok(mut disk) = sources.look_at_disk(path) else {
+        return Vec::new(alloc);
+    };
+    let note = match read_program(alloc, &mut disk, None) {
+        Ok(found) => note_of(alloc, &found.machine, names).unwrap_or(Vec::new(alloc)),
+        Err(_) => Vec::new(alloc),
+    };
+    sources.close(disk);
+    note
 }
 
 /// Tells the threads of the disk that a job looks at, before it does.

@@ -4,6 +4,7 @@
 mod fault;
 mod follower;
 mod labels;
+mod lines;
 mod named;
 mod names;
 mod piece;

@@ -4,11 +4,12 @@ ghost use Rattle.ckrt_cli_names.specs.Rows.{HasNone, IsInOrder, LiesIn, bytes_of
 
 use crate::fault::NamesFault;
 use crate::follower::Follower;
+use crate::lines::{End, end_of};
 use crate::renamed::push_offset;
 use crate::rows::{Head, Row, read_head, read_rows};
 use crate::rules::Rules;
 use crate::scan::{MOST, Scan, most_of};
-use crate::told::{End, Told, end_of, push_mark};
+use crate::told::{Told, push_mark};
 use std::alloc::{AllocError, Global};
 
 /// The names of a program's addresses.
@@ -231,16 +232,35 @@ impl Names {
         note.extend_from_slice(told)
     }
 
-    /// Makes the note of a line: what is told of its thread, or the texts of its addresses, each once. Where memory is refused it has none.
-    pub(crate) fn push_note(&self, line: &[u8], note: &mut Vec<u8>)
+    /// Puts what is told of a line into a note, and what was told of it elsewhere.
+    fn push_with(
+        &self,
+        line: &[u8],
+        elsewhere: &[u8],
+        note: &mut Vec<u8>,
+    ) -> Result<(), AllocError> {
+        self.push_told(line, note)?;
+        note.extend_from_slice(elsewhere)
+    }
+
+    /// Makes the note of a line: what is told of its thread, or the texts of its addresses, each once; and what was told of it elsewhere. Where
+    /// memory is refused it has none.
+    pub(crate) fn push_note(&self, line: &[u8], elsewhere: &[u8], note: &mut Vec<u8>)
         ensures none { self.now.rows.items ≡ [] → note.new.items ≡ [] }
     {
         note.clear();
         if self.rows.is_empty() {
             return;
         }
-        if self.push_told(line, note).is_err() {
+        if self.push_with(line, elsewhere, note).is_err() {
             note.clear();
         }
+    }
+
+    /// The note of a line, with all that stands before it.
+    pub fn note_of(&self, alloc: Global, line: &[u8]) -> Vec<u8> {
+        let mut note = Vec::new(alloc);
+        self.push_note(line, &[], &mut note);
+        note
     }
 }

@@ -3,6 +3,7 @@ ghost use Rattle.std.specs.Prelude.{◌≡◌};
 ghost use Rattle.ckrt_cli_names.specs.Rows.{bytes_of, rows_of};
 
 use crate::follower::Follower;
+use crate::lines::{cut, number_of, step_of, thread_of};
 use crate::names::{NOTE_LIMIT, Names, Place};
 use crate::piece::Form;
 use crate::renamed::{find, function_of, push_offset};
@@ -23,27 +24,6 @@ pub(crate) struct Told {
     name_size: usize,
     /// Whether it stands in the user's own code, or in a call of that.
     is_led_by_user: bool,
-}
-
-/// A line that tells of a thread at a place of a recording.
-#[derive(Clone, Copy)]
-struct Step {
-    event: u64,
-    step: u32,
-    thread: u8,
-}
-
-/// Of which thread a line tells how it ended.
-#[derive(Clone, Copy)]
-pub(crate) enum End {
-    /// Of none.
-    None,
-    /// Of all: none can go on.
-    Deadlock,
-    /// Of that which ended the program.
-    Exit,
-    /// Of this one, which faulted.
-    Fault(u8),
 }
 
 /// A line of a timeline that labels what a thread did: what stands before its name, that name, and what stands after it.
@@ -97,12 +77,6 @@ fn push_comma(text: &mut Vec<u8>) -> Result<(), AllocError> {
     text.extend_from_slice(b", ")
 }
 
-/// The parts of a text before and after a key, which stands in it.
-fn cut<'a>(text: &'a [u8], key: &[u8]) -> Option<(&'a [u8], &'a [u8])> {
-    let at = find(text, key)?;
-    Some((text.get(..at)?, text.get(at.saturating_add(key.len())..)?))
-}
-
 /// Where a function was called: `called at main.c:92, in worker` of `worker at main.c:92`. Where it is told what that was drawn into, this
 /// stands at the end.
 fn push_caller(caller: Place<'_>, text: &mut Vec<u8>) -> Result<(), AllocError> {
@@ -121,98 +95,6 @@ fn push_caller(caller: Place<'_>, text: &mut Vec<u8>) -> Result<(), AllocError> 
     }
     text.extend_from_slice(b", in ")?;
     text.extend_from_slice(drawn_into)
-}
-
-/// The number of a thread.
-fn number_of(digits: &[u8]) -> Option<u8> {
-    let mut thread: u8 = 0;
-    for byte in digits {
-        if !byte.is_ascii_digit() {
-            return None;
-        }
-        thread = thread
-            .checked_mul(10)?
-            .checked_add(byte.saturating_sub(b'0'))?;
-    }
-    Some(thread)
-}
-
-/// A decimal number.
-fn decimal(digits: &[u8]) -> Option<u64> {
-    if digits.is_empty() {
-        return None;
-    }
-    let mut value: u64 = 0;
-    for byte in digits {
-        if !byte.is_ascii_digit() {
-            return None;
-        }
-        value = value
-            .checked_mul(10)?
-            .checked_add(u64::from(byte.saturating_sub(b'0')))?;
-    }
-    Some(value)
-}
-
-/// What stands behind the place that a line begins with: `thread 2 ..` or `fault 2 ..` of `13+4 thread 2 ..`.
-fn behind_place(line: &[u8]) -> Option<(u64, u32, &[u8])> {
-    let (place, rest) = cut(line, b" ")?;
-    let (event, step) = cut(place, b"+")?;
-    let step = u32::try_from(decimal(step)?).ok()?;
-    Some((decimal(event)?, step, rest))
-}
-
-/// The step that a line tells of, with its thread.
-fn step_of(line: &[u8]) -> Option<Step> {
-    let (event, step, rest) = behind_place(line)?;
-    let thread = match fault_of(rest) {
-        Some(thread) => thread,
-        None => thread_of(rest)?,
-    };
-    Some(Step {
-        event,
-        step,
-        thread,
-    })
-}
-
-/// The thread of a fault.
-fn fault_of(text: &[u8]) -> Option<u8> {
-    let (digits, _) = cut(text.strip_prefix(b"fault ".as_slice())?, b" ")?;
-    number_of(digits)
-}
-
-/// What stands behind one of these beginnings of a line.
-fn behind_end(line: &[u8]) -> Option<&[u8]> {
-    if let Some(rest) = line.strip_prefix(b"ended: ".as_slice()) {
-        return Some(rest);
-    }
-    if let Some(rest) = line.strip_prefix(b"status ".as_slice()) {
-        return Some(rest);
-    }
-    let (_, _, rest) = behind_place(line)?;
-    Some(rest)
-}
-
-/// How a program ended, by this line.
-pub(crate) fn end_of(line: &[u8]) -> End {
-    if line == b"deadlock".as_slice() {
-        return End::Deadlock;
-    }
-    if line.starts_with(b"ended: exit ") {
-        return End::Exit;
-    }
-    match behind_end(line).and_then(fault_of) {
-        Some(thread) => End::Fault(thread),
-        None => End::None,
-    }
-}
-
-/// The number of the thread whose line this is.
-fn thread_of(line: &[u8]) -> Option<u8> {
-    let rest = line.strip_prefix(b"thread ".as_slice())?;
-    let (digits, _) = cut(rest, b" ")?;
-    number_of(digits)
 }
 
 /// Where the number of a thread begins in a line that labels what it did.
@@ -321,6 +203,12 @@ impl Names {
         let told = self.told_at(alloc, memory, thread, frame)?;
         self.told.push(told)?;
         Ok(())
+    }
+
+    /// Forgets what is told of threads.
+    pub fn forget_threads(&mut self) {
+        self.told.clear();
+        self.ended_by = None;
     }
 
     /// Takes the thread that ended the program by a call: the line of that end tells it.
