@@ -5,47 +5,80 @@
 mod asked;
 mod beside;
 mod giving;
+mod kept;
 mod threads;
 
 use asked::{form_of, names_asked};
-use beside::{Beside, Refusal, Trouble};
+use beside::{Beside, Refusal, Trouble, copy_of};
 use ckrt_cli::run_words;
 use ckrt_cli_files::{OutputReason, SystemSources, ToldWriter};
-use ckrt_cli_names::{Form, NamedWriter, Names, Unflushed};
+use ckrt_cli_names::{Form, NamedWriter, Names};
 use ckrt_cli_reports::{SystemMeter, WrittenReport};
 use ckrt_cli_words::{Job, read_names, read_words};
 use ckrt_disk::Calls;
 use giving::Giving;
+use kept::KeptWriter;
 use std::cell::Cell;
 use std::env;
 use std::io::{self, ErrorKind, Write};
 use std::marker::Brand;
 use std::process::ExitCode;
-use threads::tell_looked_at;
+use threads::{tell_driven, tell_looked_at};
 
-/// The job of these words on the standard streams, with a place for why an output failed; the answer is the program's status.
-fn run<'a>(
-    rt: &'a HostRuntime,
+/// What a job is done with: its words, a place for why an output failed, and where it is known the job.
+#[derive(Clone, Copy)]
+struct Task<'a, 'j> {
     words: &'a [&'a str],
     why: &'a Cell<OutputReason>,
+    job: Option<&'j Job<'a>>,
+}
+
+/// Writes what was reported on standard error, with its names. Of a drive the line of its end tells the threads of its disk.
+fn write_report(rt: &HostRuntime, task: Task<'_, '_>, status: u8, names: Names, bytes: &[u8]) {
+    let mut names = names;
+    if let Some(job) = task.job {
+        let _ = tell_driven(rt, task.why, job, status, &mut names);
+    }
+    let mut report = NamedWriter::new(rt.alloc(), names, rt.stderr());
+    let _ = report.write_all(bytes);
+    let _ = report.flush();
+}
+
+/// The names that a hunt prints with, once more; none for another job, or where memory is refused.
+fn names_of_kept(rt: &HostRuntime, task: Task<'_, '_>, printed: &Names) -> Names {
+    let alloc = rt.alloc();
+    if !matches!(task.job, Some(Job::Hunt(_))) {
+        return Names::none(alloc);
+    }
+    match copy_of(alloc, printed) {
+        Ok(bytes) => Names::parse(alloc, bytes).unwrap_or(Names::none(alloc)),
+        Err(_) => Names::none(alloc),
+    }
+}
+
+/// The job of these words on the standard streams; the answer is the program's status.
+fn run<'a>(
+    rt: &'a HostRuntime,
+    task: Task<'a, '_>,
     (printed, form): (Names, Form),
     reported: Names,
 ) -> u8 {
-    let told = ToldWriter::new(io::writer(rt), why);
-    let mut writer = NamedWriter::in_form(rt.alloc(), printed, form, told);
-    let report = NamedWriter::new(rt.alloc(), reported, rt.stderr());
-    let mut reporter = WrittenReport::new(Unflushed::new(report));
+    let told = ToldWriter::new(io::writer(rt), task.why);
+    let again = names_of_kept(rt, task, &printed);
+    let named = NamedWriter::in_form(rt.alloc(), printed, form, told);
+    let mut writer = KeptWriter::new(rt, task.why, again, named);
+    let mut reporter = WrittenReport::new(Vec::new(rt.alloc()));
     let status = run_words::<HostRuntime, Brand, _, _, _, _>(
         rt.alloc(),
-        words,
-        &mut SystemSources::new(rt, why, Calls::new()),
+        task.words,
+        &mut SystemSources::new(rt, task.why, Calls::new()),
         &mut rt.reader(),
         &mut writer,
         &mut reporter,
         &mut SystemMeter::new(rt),
     );
     let _ = writer.flush();
-    let _ = reporter.into_writer().into_inner().flush();
+    write_report(rt, task, status, reported, &reporter.into_writer());
     status
 }
 
@@ -53,7 +86,12 @@ fn run<'a>(
 fn run_plain<'a>(rt: &'a HostRuntime, words: &'a [&'a str], why: &'a Cell<OutputReason>) -> u8 {
     let alloc = rt.alloc();
     let printed = (Names::none(alloc), Form::Notes);
-    run(rt, words, why, printed, Names::none(alloc))
+    let task = Task {
+        words,
+        why,
+        job: None,
+    };
+    run(rt, task, printed, Names::none(alloc))
 }
 
 /// Says why names can't be used; the answer is the program's status.
@@ -88,7 +126,12 @@ fn run_with<'a>(
         Some(bytes) => Giving::begin(rt, rt.alloc(), job, bytes).ok(),
         None => None,
     };
-    let status = run(rt, words, why, (printed, form_of(job)), reported);
+    let task = Task {
+        words,
+        why,
+        job: Some(job),
+    };
+    let status = run(rt, task, (printed, form_of(job)), reported);
     if let Some(giving) = giving {
         let _ = giving.end(rt, job, status);
     }

@@ -42,11 +42,6 @@ pub taken_more : (first : Option (List ℕ)) (a b x : List ℕ) → b ≡ a ++ x
 taken_more None a b x is = tt
 taken_more (Some held) a b x is = ap (λ (l : List ℕ). held ++ l) is ∙ sym (append_assoc held a x)
 
--- a writer of which nothing was asked keeps what it has
-pub kept : (a : Option (List ℕ)) → Keeps a a
-kept None = tt
-kept (Some held) = refl
-
 -- nothing was taken behind what was there
 pub nothing_taken : (first : Option (List ℕ)) → Keeps first (append_known first [])
 nothing_taken None = tt

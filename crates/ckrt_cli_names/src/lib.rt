@@ -2,7 +2,9 @@
 #![tactic(auto)]
 
 mod fault;
+mod follower;
 mod labels;
+mod lines;
 mod named;
 mod names;
 mod piece;
@@ -11,10 +13,8 @@ mod rows;
 mod rules;
 mod scan;
 mod told;
-mod unflushed;
 
 pub use fault::NamesFault;
 pub use named::NamedWriter;
 pub use names::{Names, SIZE_LIMIT};
 pub use piece::{Form, Piece};
-pub use unflushed::Unflushed;

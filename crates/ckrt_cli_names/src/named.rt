@@ -29,6 +29,8 @@ pub struct NamedWriter<W: Write> {
     /// Whether its beginning has gone through already.
     is_begun: bool,
     note: Vec<u8>,
+    /// What was told of the line elsewhere.
+    elsewhere: Vec<u8>,
     /// What is to be written, of which so many bytes are.
     waiting: Vec<u8>,
     written: usize,
@@ -74,6 +76,7 @@ impl<W: Write> NamedWriter<W> {
             line: Vec::new(alloc),
             is_begun: false,
             note: Vec::new(alloc),
+            elsewhere: Vec::new(alloc),
             waiting: Vec::new(alloc),
             written: 0,
             start,
@@ -96,6 +99,21 @@ impl<W: Write> NamedWriter<W> {
         ensures marked { KeepsMarks self.now.form (put_by self.now) }
     {
         let _ = &self.inner;
+    }
+
+    /// The line that isn't put yet.
+    pub fn line(&self) -> &[u8]
+        ensures { result.now ≡ line_of self.now }
+    {
+        self.line.as_slice()
+    }
+
+    /// Takes what was told elsewhere of the line that isn't put yet: it stands in its note, behind what is told here.
+    pub fn tell_elsewhere(&mut self, text: Vec<u8>)
+        ensures contents { ⟦<NamedWriter<W> as Write>⟧.contents self.new
+            ≡ ⟦<NamedWriter<W> as Write>⟧.contents self.old }
+    {
+        self.elsewhere = text;
     }
 
     /// The writer below, with what it has been given by now.
@@ -184,8 +202,11 @@ impl<W: Write> NamedWriter<W> {
         if self.is_begun {
             self.note.clear();
         } else {
-            self.names.push_note(&self.line, &mut self.note);
+            self.names.follow_line(&self.line);
+            self.names
+                .push_note(&self.line, &self.elsewhere, &mut self.note);
         }
+        self.elsewhere.clear();
     }
 
     /// Puts the note behind what waits, where there is room for it. Frames have none.

@@ -3,11 +3,13 @@ ghost use Rattle.std.specs.Prelude.{◌≡◌, ◌<◌, ◌↔◌, [], IsTrue, I
 ghost use Rattle.ckrt_cli_names.specs.Rows.{HasNone, IsInOrder, LiesIn, bytes_of, rows_of};
 
 use crate::fault::NamesFault;
+use crate::follower::Follower;
+use crate::lines::{End, end_of};
 use crate::renamed::push_offset;
 use crate::rows::{Head, Row, read_head, read_rows};
 use crate::rules::Rules;
 use crate::scan::{MOST, Scan, most_of};
-use crate::told::Told;
+use crate::told::{Told, push_mark};
 use std::alloc::{AllocError, Global};
 
 /// The names of a program's addresses.
@@ -19,6 +21,12 @@ pub struct Names {
     pub(crate) rules: Rules,
     /// What is told of threads.
     pub(crate) told: Vec<Told>,
+    /// The thread that ended the program by a call.
+    pub(crate) ended_by: Option<u8>,
+    /// A recording that is made beside the lines.
+    pub(crate) follower: Option<Follower>,
+    /// What is told of the thread of a line, where that recording stands.
+    pub(crate) there: Option<Told>,
 }
 
 /// What is named of an address.
@@ -35,7 +43,7 @@ pub(crate) struct Place<'a> {
 pub const SIZE_LIMIT: usize = 67_108_864;
 
 /// How many bytes a note has at most.
-const NOTE_LIMIT: usize = 4_096;
+pub(crate) const NOTE_LIMIT: usize = 4_096;
 
 impl Names {
     /// No names.
@@ -52,6 +60,9 @@ impl Names {
             rows: Vec::new(alloc),
             rules: Rules::none(alloc),
             told: Vec::new(alloc),
+            ended_by: None,
+            follower: None,
+            there: None,
         }
     }
 
@@ -78,6 +89,9 @@ impl Names {
             rows,
             rules,
             told: Vec::new(alloc),
+            ended_by: None,
+            follower: None,
+            there: None,
         })
     }
 
@@ -157,24 +171,25 @@ impl Names {
         if note.len() >= NOTE_LIMIT || place.text.len() > NOTE_LIMIT {
             return Ok(());
         }
-        note.extend_from_slice(if note.is_empty() {
-            b"    # ".as_slice()
-        } else {
-            b"; ".as_slice()
-        })?;
+        push_mark(note)?;
         note.extend_from_slice(place.text)?;
         push_offset(place.offset, note)
     }
 
-    /// Puts the texts of a line's addresses into a note.
-    fn push_places(&self, line: &[u8], note: &mut Vec<u8>) -> Result<(), AllocError> {
+    /// Puts the texts of a line's addresses into a note, behind the first so many.
+    fn push_places(
+        &self,
+        line: &[u8],
+        passed: usize,
+        note: &mut Vec<u8>,
+    ) -> Result<(), AllocError> {
         let mut scan = Scan::new(line);
         let mut seen = [0u32; MOST];
         for index in 0..most_of(line) {
             let Some(address) = scan.next_address() else {
                 return Ok(());
             };
-            if !seen[..index].contains(&address) {
+            if index >= passed && !seen[..index].contains(&address) {
                 self.push_place(address, note)?;
             }
             seen[index] = address;
@@ -182,10 +197,33 @@ impl Names {
         Ok(())
     }
 
-    /// Puts what is told of a line into a note: of its thread, or else the texts of its addresses.
+    /// Puts what is told of a fault into a note: of its thread, in place of the text of its pc, which is the line's first address; and the
+    /// texts of the others.
+    fn push_faulted(&self, line: &[u8], thread: u8, note: &mut Vec<u8>) -> Result<(), AllocError> {
+        let is_told = self.push_fault(thread, note)?;
+        self.push_places(line, usize::from(is_told), note)
+    }
+
+    /// Puts the texts of a line's addresses into a note, and what is told of the thread of its step.
+    fn push_stepped(&self, line: &[u8], note: &mut Vec<u8>) -> Result<(), AllocError> {
+        self.push_places(line, 0, note)?;
+        self.push_there(note)
+    }
+
+    /// Puts what is told of a line into a note: how the program ended, or the texts of its addresses.
+    fn push_ended(&self, line: &[u8], note: &mut Vec<u8>) -> Result<(), AllocError> {
+        match end_of(line) {
+            End::Deadlock => self.push_all(note),
+            End::Exit => self.push_exit(note),
+            End::Fault(thread) => self.push_faulted(line, thread, note),
+            End::None => self.push_stepped(line, note),
+        }
+    }
+
+    /// Puts what is told of a line into a note: of its thread, where that is known of a listing.
     fn push_told(&self, line: &[u8], note: &mut Vec<u8>) -> Result<(), AllocError> {
         let Some(told) = self.told_behind(line) else {
-            return self.push_places(line, note);
+            return self.push_ended(line, note);
         };
         if told.is_empty() {
             return Ok(());
@@ -194,16 +232,35 @@ impl Names {
         note.extend_from_slice(told)
     }
 
-    /// Makes the note of a line: what is told of its thread, or the texts of its addresses, each once. Where memory is refused it has none.
-    pub(crate) fn push_note(&self, line: &[u8], note: &mut Vec<u8>)
+    /// Puts what is told of a line into a note, and what was told of it elsewhere.
+    fn push_with(
+        &self,
+        line: &[u8],
+        elsewhere: &[u8],
+        note: &mut Vec<u8>,
+    ) -> Result<(), AllocError> {
+        self.push_told(line, note)?;
+        note.extend_from_slice(elsewhere)
+    }
+
+    /// Makes the note of a line: what is told of its thread, or the texts of its addresses, each once; and what was told of it elsewhere. Where
+    /// memory is refused it has none.
+    pub(crate) fn push_note(&self, line: &[u8], elsewhere: &[u8], note: &mut Vec<u8>)
         ensures none { self.now.rows.items ≡ [] → note.new.items ≡ [] }
     {
         note.clear();
         if self.rows.is_empty() {
             return;
         }
-        if self.push_told(line, note).is_err() {
+        if self.push_with(line, elsewhere, note).is_err() {
             note.clear();
         }
+    }
+
+    /// The note of a line, with all that stands before it.
+    pub fn note_of(&self, alloc: Global, line: &[u8]) -> Vec<u8> {
+        let mut note = Vec::new(alloc);
+        self.push_note(line, &[], &mut note);
+        note
     }
 }

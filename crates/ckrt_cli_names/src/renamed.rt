@@ -105,6 +105,17 @@ fn push_marked_up(form: Form, text: &[u8], out: &mut Vec<u8>) -> Result<(), Allo
     }
 }
 
+/// Puts the name of a thread behind its number: in a picture in a line of its own below, in trace events behind a blank.
+fn push_label(form: Form, name: &[u8], out: &mut Vec<u8>) -> Result<(), AllocError> {
+    if !matches!(form, Form::Picture) {
+        out.extend_from_slice(b" ")?;
+        return push_json(name, out);
+    }
+    out.extend_from_slice(b"<tspan x=\"4\" dy=\"9\" font-size=\"8\">")?;
+    push_xml(name, out)?;
+    out.extend_from_slice(b"</tspan>")
+}
+
 /// How far from the begin of its row an address is.
 pub(crate) fn push_offset(offset: u32, out: &mut Vec<u8>) -> Result<(), AllocError> {
     if offset == 0 {
@@ -246,8 +257,7 @@ impl Names {
         };
         out.clear();
         out.extend_from_slice(label.front)?;
-        out.extend_from_slice(b" ")?;
-        push_marked_up(form, label.name, out)?;
+        push_label(form, label.name, out)?;
         out.extend_from_slice(label.back)
     }
 

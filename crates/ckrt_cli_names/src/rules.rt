@@ -1,7 +1,7 @@
 //! What stands after the rows of a file of names: the code of the kit, the rules by which its functions are left, and where it keeps threads.
 use crate::fault::NamesFault;
 use crate::rows::line_length;
-use crate::scan::hex_word;
+use crate::scan::{decimal, hex_word};
 use ckrt_look_callers::{Base, Rule, Saved, Stretch};
 use std::alloc::{AllocError, Global};
 
@@ -40,21 +40,9 @@ fn next_word(line: &[u8]) -> (&[u8], &[u8]) {
     (word, rest.get(1..).unwrap_or(&[]))
 }
 
-/// The number of a word of decimal digits.
-fn decimal(word: &[u8]) -> Option<u32> {
-    if word.is_empty() {
-        return None;
-    }
-    let mut value: u32 = 0;
-    for byte in word {
-        if !byte.is_ascii_digit() {
-            return None;
-        }
-        value = value
-            .checked_mul(10)?
-            .checked_add(u32::from(byte.saturating_sub(b'0')))?;
-    }
-    Some(value)
+/// The number of a word of decimal digits, below 2^32.
+fn small(word: &[u8]) -> Option<u32> {
+    u32::try_from(decimal(word)?).ok()
 }
 
 /// The stretch of two words.
@@ -66,7 +54,7 @@ fn stretch(begin: &[u8], size: &[u8]) -> Option<Stretch> {
 
 /// The register that a canonical frame address is counted from.
 fn base(word: &[u8]) -> Option<Base> {
-    match decimal(word)? {
+    match small(word)? {
         2 => Some(Base::StackPointer),
         8 => Some(Base::FramePointer),
         _ => None,
@@ -78,7 +66,7 @@ fn saved(word: &[u8], register: &[u8]) -> Option<Saved> {
     if word == register {
         return Some(Saved::Kept);
     }
-    Some(Saved::Below(decimal(word)?))
+    Some(Saved::Below(small(word)?))
 }
 
 /// The rule of the words after a stretch.
@@ -89,7 +77,7 @@ fn read_rule(stretch: Stretch, words: &[u8]) -> Option<Rule> {
     Some(Rule {
         stretch,
         base: base(register)?,
-        offset: decimal(offset)?,
+        offset: small(offset)?,
         return_address: saved(return_address, b"x1")?,
         frame_pointer: saved(frame_pointer, b"x8")?,
     })

@@ -59,6 +59,23 @@ pub(crate) fn hex_word(word: &[u8]) -> Option<u32> {
     Some(value)
 }
 
+/// The number of a word of decimal digits.
+pub(crate) fn decimal(digits: &[u8]) -> Option<u64> {
+    if digits.is_empty() {
+        return None;
+    }
+    let mut value: u64 = 0;
+    for byte in digits {
+        if !byte.is_ascii_digit() {
+            return None;
+        }
+        value = value
+            .checked_mul(10)?
+            .checked_add(u64::from(byte.saturating_sub(b'0')))?;
+    }
+    Some(value)
+}
+
 /// What stands before a word, as far as that matters.
 #[derive(Clone, Copy, PartialEq, Eq)]
 enum Before {

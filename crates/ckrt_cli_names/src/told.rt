@@ -2,11 +2,15 @@
 ghost use Rattle.std.specs.Prelude.{◌≡◌};
 ghost use Rattle.ckrt_cli_names.specs.Rows.{bytes_of, rows_of};
 
-use crate::names::{Names, Place};
+use crate::follower::Follower;
+use crate::lines::{cut, number_of, step_of, thread_of};
+use crate::names::{NOTE_LIMIT, Names, Place};
 use crate::piece::Form;
 use crate::renamed::{find, function_of, push_offset};
 use crate::scan::word_end;
+use ckrt_events::Event;
 use ckrt_look_callers::{Call, Frame, call_of, name_of};
+use ckrt_machine::Machine;
 use ckrt_memory::Memory;
 use std::alloc::{AllocError, Global};
 
@@ -18,6 +22,8 @@ pub(crate) struct Told {
     text: Vec<u8>,
     /// How many bytes of that are its name.
     name_size: usize,
+    /// Whether it stands in the user's own code, or in a call of that.
+    is_led_by_user: bool,
 }
 
 /// A line of a timeline that labels what a thread did: what stands before its name, that name, and what stands after it.
@@ -45,18 +51,30 @@ fn push_name(name: &[u8], text: &mut Vec<u8>) -> Result<(), AllocError> {
     Ok(())
 }
 
+/// What stands before a part of a note.
+pub(crate) fn push_mark(note: &mut Vec<u8>) -> Result<(), AllocError> {
+    note.extend_from_slice(if note.is_empty() {
+        b"    # ".as_slice()
+    } else {
+        b"; ".as_slice()
+    })
+}
+
+/// Puts what is told of a thread behind a note.
+fn push_behind(told: &Told, note: &mut Vec<u8>) -> Result<(), AllocError> {
+    if told.text.is_empty() || note.len() >= NOTE_LIMIT {
+        return Ok(());
+    }
+    push_mark(note)?;
+    note.extend_from_slice(&told.text)
+}
+
 /// What stands between two parts.
 fn push_comma(text: &mut Vec<u8>) -> Result<(), AllocError> {
     if text.is_empty() {
         return Ok(());
     }
     text.extend_from_slice(b", ")
-}
-
-/// The parts of a text before and after a key, which stands in it.
-fn cut<'a>(text: &'a [u8], key: &[u8]) -> Option<(&'a [u8], &'a [u8])> {
-    let at = find(text, key)?;
-    Some((text.get(..at)?, text.get(at.saturating_add(key.len())..)?))
 }
 
 /// Where a function was called: `called at main.c:92, in worker` of `worker at main.c:92`. Where it is told what that was drawn into, this
@@ -77,27 +95,6 @@ fn push_caller(caller: Place<'_>, text: &mut Vec<u8>) -> Result<(), AllocError> 
     }
     text.extend_from_slice(b", in ")?;
     text.extend_from_slice(drawn_into)
-}
-
-/// The number of a thread.
-fn number_of(digits: &[u8]) -> Option<u8> {
-    let mut thread: u8 = 0;
-    for byte in digits {
-        if !byte.is_ascii_digit() {
-            return None;
-        }
-        thread = thread
-            .checked_mul(10)?
-            .checked_add(byte.saturating_sub(b'0'))?;
-    }
-    Some(thread)
-}
-
-/// The number of the thread whose line this is.
-fn thread_of(line: &[u8]) -> Option<u8> {
-    let rest = line.strip_prefix(b"thread ".as_slice())?;
-    let (digits, _) = cut(rest, b" ")?;
-    number_of(digits)
 }
 
 /// Where the number of a thread begins in a line that labels what it did.
@@ -163,6 +160,34 @@ impl Names {
         call_of(&self.rules.kit, &self.rules.ups, memory, frame)
     }
 
+    /// Whether an address is one of the kit's code.
+    fn is_kit(&self, address: u32) -> bool {
+        self.rules.kit.iter().any(|stretch| stretch.begin <= address && address < stretch.end)
+    }
+
+    /// What is told of a thread, of which its frame is known.
+    fn told_at(
+        &self,
+        alloc: Global,
+        memory: &Memory,
+        thread: u8,
+        frame: &Frame,
+    ) -> Result<Told, AllocError> {
+        let mut text = Vec::new(alloc);
+        if let Some(table) = self.rules.threads {
+            push_name(name_of(memory, table, thread), &mut text)?;
+        }
+        let name_size = text.len();
+        let call = self.call_of(memory, frame);
+        self.push_standing(frame.place, call, &mut text)?;
+        Ok(Told {
+            thread,
+            text,
+            name_size,
+            is_led_by_user: call.is_some() || !self.is_kit(frame.place),
+        })
+    }
+
     /// Makes what stands behind the line of a thread, of which its frame is known: its name, and where it stands in the user's own code.
     /// It takes the place of what would stand there for the address alone. No row changes.
     pub fn tell_thread(
@@ -175,19 +200,107 @@ impl Names {
         ensures rows { rows_of self.new ≡ rows_of self.old }
         ensures bytes { bytes_of self.new ≡ bytes_of self.old }
     {
-        let mut text = Vec::new(alloc);
-        if let Some(table) = self.rules.threads {
-            push_name(name_of(memory, table, thread), &mut text)?;
-        }
-        let name_size = text.len();
-        let call = self.call_of(memory, frame);
-        self.push_standing(frame.place, call, &mut text)?;
-        self.told.push(Told {
-            thread,
-            text,
-            name_size,
-        })?;
+        let told = self.told_at(alloc, memory, thread, frame)?;
+        self.told.push(told)?;
         Ok(())
+    }
+
+    /// Forgets what is told of threads.
+    pub fn forget_threads(&mut self) {
+        self.told.clear();
+        self.ended_by = None;
+    }
+
+    /// Takes the thread that ended the program by a call: the line of that end tells it.
+    pub fn tell_ended_by(&mut self, thread: u8) {
+        self.ended_by = Some(thread);
+    }
+
+    /// Takes a recording: a machine, behind how many events it is, and the events from there on. The line of each of its steps then tells
+    /// where its thread stood.
+    pub fn follow(&mut self, alloc: Global, machine: Machine, first: u64, events: Vec<Event>) {
+        self.follower = Some(Follower::new(alloc, machine, first, events));
+    }
+
+    /// Goes to the step that a line tells of. Where the recording doesn't lead there it is given up.
+    fn go_to_step(&mut self, line: &[u8]) -> Option<u8>
+        ensures rows { rows_of self.new ≡ rows_of self.old }
+        ensures bytes { bytes_of self.new ≡ bytes_of self.old }
+    {
+        let step = step_of(line)?;
+        let follower = self.follower.as_mut()?;
+        if follower.go_to(step.event, step.step) {
+            return Some(step.thread);
+        }
+        self.follower = None;
+        None
+    }
+
+    /// What is told of a thread where the recording stands.
+    fn told_there(&self, thread: u8) -> Option<Told> {
+        let follower = self.follower.as_ref()?;
+        let frame = follower.frame_of(thread)?;
+        self.told_at(follower.alloc, follower.memory(), thread, &frame)
+            .ok()
+    }
+
+    /// Looks where the thread stood of whose step a line tells, in a recording that was taken.
+    pub(crate) fn follow_line(&mut self, line: &[u8])
+        ensures rows { rows_of self.new ≡ rows_of self.old }
+        ensures bytes { bytes_of self.new ≡ bytes_of self.old }
+    {
+        if self.follower.is_none() {
+            return;
+        }
+        let thread = self.go_to_step(line);
+        self.there = thread.and_then(|thread| self.told_there(thread));
+    }
+
+    /// Puts what is told of a thread behind the note of its step, where a line of the user led there.
+    pub(crate) fn push_there(&self, note: &mut Vec<u8>) -> Result<(), AllocError> {
+        match &self.there {
+            Some(told) if told.is_led_by_user => push_behind(told, note),
+            _ => Ok(()),
+        }
+    }
+
+    /// Puts what is told of a thread that ended the program into a note: where a line of the user led there.
+    pub(crate) fn push_exit(&self, note: &mut Vec<u8>) -> Result<(), AllocError> {
+        match self.ended_by.and_then(|thread| self.told_of(thread)) {
+            Some(told) if told.is_led_by_user => push_behind(told, note),
+            _ => Ok(()),
+        }
+    }
+
+    /// Puts where each thread stands into a note.
+    pub(crate) fn push_all(&self, note: &mut Vec<u8>) -> Result<(), AllocError> {
+        let mut digits = itoa::Buffer::new();
+        for told in &self.told {
+            if told.text.is_empty() || note.len() >= NOTE_LIMIT {
+                continue;
+            }
+            push_mark(note)?;
+            note.extend_from_slice(b"thread ")?;
+            note.extend_from_slice(digits.format(told.thread).as_bytes())?;
+            note.extend_from_slice(b" ")?;
+            note.extend_from_slice(&told.text)?;
+        }
+        Ok(())
+    }
+
+    /// Puts what is told of a thread that faulted into a note, and says whether anything is.
+    pub(crate) fn push_fault(&self, thread: u8, note: &mut Vec<u8>) -> Result<bool, AllocError> {
+        let told = match &self.there {
+            Some(told) => Some(told),
+            None => self.told_of(thread),
+        };
+        match told {
+            Some(told) if told.thread == thread => {
+                push_behind(told, note)?;
+                Ok(!told.text.is_empty())
+            }
+            _ => Ok(false),
+        }
     }
 
     /// What is told of a thread.

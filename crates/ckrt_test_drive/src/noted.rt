@@ -1,7 +1,7 @@
 //! A writer with names: what comes of what it takes, over a writer that takes little at once and fails.
 
 use crate::expect::{expect_bytes, expect_eq};
-use ckrt_cli_names::{NamedWriter, Names, Unflushed};
+use ckrt_cli_names::{NamedWriter, Names};
 use std::io::{self, ErrorKind, Write};
 use std::process::Abort;
 
@@ -159,24 +159,6 @@ fn flushed_part_has_no_name(rt: HostRuntime) {
         &taken,
         b"pc 00001000 00001008\n00001008    # pair.lock\n",
     );
-}
-
-/// The same with flushes that do nothing.
-fn play_unflushed<R: Abort + AllocGlobal>(rt: &R) -> Vec<u8> {
-    let named = NamedWriter::new(rt.alloc(), names(rt), Rough::new(rt, 0));
-    let mut writer = Unflushed::new(named);
-    expect_eq(rt, give(&mut writer, b"pc 0000"), 0);
-    expect_eq(rt, flush(&mut writer), 0);
-    expect_eq(rt, give(&mut writer, b"1000\n"), 0);
-    let mut named = writer.into_inner();
-    expect_eq(rt, flush(&mut named), 0);
-    named.into_inner().taken
-}
-
-#[test]
-fn unflushed_part_stays_in_its_line(rt: HostRuntime) {
-    let taken = play_unflushed(&rt);
-    expect_bytes(&rt, &taken, b"pc 00001000    # main at a.c:3\n");
 }
 
 /// A long line, and one behind it.

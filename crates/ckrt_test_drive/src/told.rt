@@ -267,8 +267,8 @@ thread 00001000    # main at a.c:3\n",
 /// Lines of a picture, of which one labels thread 1, and what comes of them.
 const PICTURE: (&[u8], &[u8]) = (
     b"<text x=\"4\" y=\"33\">thread 1</text>\n<text x=\"4\" y=\"53\">thread 2</text>\n<text>thread 1</text>\n",
-    b"<text x=\"4\" y=\"33\">thread 1 left</text>\n<text x=\"4\" y=\"53\">thread 2</text>\n\
-<text>thread 1</text>\n",
+    b"<text x=\"4\" y=\"33\">thread 1<tspan x=\"4\" dy=\"9\" font-size=\"8\">left</tspan></text>\n\
+<text x=\"4\" y=\"53\">thread 2</text>\n<text>thread 1</text>\n",
 );
 
 /// The same of trace events.
@@ -284,6 +284,82 @@ fn timelines_have_names_of_threads(rt: HostRuntime) {
     expect_bytes(&rt, &picture, PICTURE.1);
     let events = play(&rt, &memory, &CASES[0], Form::Events, EVENTS.0);
     expect_bytes(&rt, &events, EVENTS.1);
+}
+
+/// Lines by which a program ends, of which a thread waits in the kit and another one stands in its own code; and what comes of them.
+const ENDS: [(&[u8], &[u8]); 9] = [
+    (
+        b"deadlock",
+        b"    # thread 1 left, in lock, called at a.c:9, in worker; thread 2 a?~?bbbbbbbbbbb, main at a.c:3",
+    ),
+    (
+        b"ended: fault 1 00001110 LoadRange 00000008",
+        b"    # left, in lock, called at a.c:9, in worker",
+    ),
+    (
+        b"status fault 2 00001004 LoadRange",
+        b"    # a?~?bbbbbbbbbbb, main at a.c:3",
+    ),
+    (
+        b"7+12 fault 2 00001004 StoreRange 00001008",
+        b"    # a?~?bbbbbbbbbbb, main at a.c:3; worker at a.c:9",
+    ),
+    (
+        b"ended: fault 4 00001004 StoreRange 00001008",
+        b"    # main at a.c:3; worker at a.c:9",
+    ),
+    (
+        b"ended: exit 3",
+        b"    # left, in lock, called at a.c:9, in worker",
+    ),
+    (b"ended: waits for input", b""),
+    (b"deadlock 00001004", b"    # main at a.c:3"),
+    (b"7+12 thread 1 exit(3) = ?", b""),
+];
+
+/// The names with both threads told. The one of this number ended the program.
+fn ended<R: Abort + AllocGlobal>(rt: &R, memory: &Memory, first: &Case, ended_by: u8) -> Names {
+    let Some(mut names) = names_in(rt, FILE) else {
+        panic!(rt; "these are names");
+    };
+    for case in [first, &CASES[13]] {
+        let told = names.tell_thread(rt.alloc(), memory, case.0, &frame(case.1, case.2));
+        expect_eq(rt, told.is_ok(), true);
+    }
+    names.tell_ended_by(ended_by);
+    names
+}
+
+/// What comes of a line.
+fn end_line<R: Abort + AllocGlobal>(rt: &R, names: Names, line: &[u8]) -> Vec<u8> {
+    let mut writer = NamedWriter::new(rt.alloc(), names, Vec::new(rt.alloc()));
+    expect_eq(rt, writer.write_all(line).is_ok(), true);
+    expect_eq(rt, writer.write_all(b"\n").is_ok(), true);
+    expect_eq(rt, writer.flush().is_ok(), true);
+    writer.into_inner()
+}
+
+#[test]
+fn ends_tell_threads(rt: HostRuntime) {
+    let memory = memory(&rt);
+    for (line, behind) in &ENDS {
+        let taken = end_line(&rt, ended(&rt, &memory, &CASES[0], 1), line);
+        let mut want = Vec::new(rt.alloc());
+        let _ = want.extend_from_slice(line);
+        let _ = want.extend_from_slice(behind);
+        let _ = want.extend_from_slice(b"\n");
+        expect_bytes(&rt, &taken, &want);
+    }
+}
+
+/// Where no caller in the program's own code is known, the end of a program tells nothing.
+#[test]
+fn ends_in_the_kit_alone_tell_nothing(rt: HostRuntime) {
+    let memory = memory(&rt);
+    let taken = end_line(&rt, ended(&rt, &memory, &CASES[10], 1), b"ended: exit 3");
+    expect_bytes(&rt, &taken, b"ended: exit 3\n");
+    let taken = end_line(&rt, ended(&rt, &memory, &CASES[0], 9), b"ended: exit 3");
+    expect_bytes(&rt, &taken, b"ended: exit 3\n");
 }
 
 /// Whether a file with these rows after its own is one of names.
