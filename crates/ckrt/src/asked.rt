@@ -1,5 +1,7 @@
 //! The names that `--names` asks for, and in which form names are put.
-use crate::beside::{Beside, Trouble, are_of, copy_of, is_missing, read_or_refuse, reported};
+use crate::beside::{
+    Beside, Trouble, are_of, copy_of, is_missing, of_program, read_or_refuse, reported,
+};
 use ckrt_cli_names::{Form, Names, SIZE_LIMIT};
 use ckrt_cli_words::{Job, ProfileForm};
 use std::alloc::Global;
@@ -40,6 +42,32 @@ fn image_of<'a, R: Files<File = File>>(rt: &R, job: &Job<'a>) -> Option<&'a str>
     }
 }
 
+/// The disk whose program names have to be of, where it is there: of a look, and of a drive.
+fn disk_of<'a>(job: &Job<'a>) -> Option<&'a str> {
+    match job {
+        Job::Inspect(job) => Some(job.disk),
+        Job::Calls(job) | Job::Races(job) => Some(job.disk),
+        Job::Profile(job) => Some(job.stretch.disk),
+        Job::Timeline(job) => Some(job.stretch.disk),
+        Job::Drive(job) => Some(job.disk),
+        _ => None,
+    }
+}
+
+/// The names of a file, which have to be of the program of the job's disk.
+fn names_for<R: Files<File = File>>(
+    rt: &R,
+    alloc: Global,
+    job: &Job<'_>,
+    path: &str,
+) -> Result<Names, Trouble> {
+    let names = names_in(rt, alloc, path)?;
+    match disk_of(job) {
+        Some(disk) => of_program(rt, alloc, names, disk),
+        None => Ok(names),
+    }
+}
+
 /// The names of a file that was asked for, in place of those beside what a job reads. Disks that it makes get them. Of a drive they name
 /// the end that is reported.
 pub fn names_asked<'a, R: Files<File = File>>(
@@ -48,7 +76,7 @@ pub fn names_asked<'a, R: Files<File = File>>(
     job: &Job<'a>,
     path: &str,
 ) -> Result<Beside<'a>, Trouble> {
-    let printed = names_in(rt, alloc, path)?;
+    let printed = names_for(rt, alloc, job, path)?;
     let gift = match image_of(rt, job) {
         Some(image) => {
             are_of_image(rt, alloc, &printed, image)?;

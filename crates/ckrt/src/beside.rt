@@ -4,6 +4,8 @@
 //! is done without them.
 use ckrt_cli_names::{Names, NamesFault, SIZE_LIMIT};
 use ckrt_cli_words::{DriveJob, Job};
+use ckrt_disk::MemoryDisk;
+use ckrt_stored::{ProgramNote, read_note};
 use sha2::{Digest, Sha256};
 use std::alloc::{AllocError, Global};
 use std::fs::{File, Files, OpenOptions};
@@ -22,6 +24,8 @@ pub enum Trouble {
     Malformed,
     /// It is of another image.
     OtherImage,
+    /// It is of another program than the one that the disk notes.
+    OtherProgram,
 }
 
 impl Trouble {
@@ -34,6 +38,9 @@ impl Trouble {
             Trouble::Malformed => "it isn't a file of names; make it again by guest/image",
             Trouble::OtherImage => {
                 "it is of another image; make both by guest/build or guest/image"
+            }
+            Trouble::OtherProgram => {
+                "it is of another program than the disk; take the names of the image that the disk was made with"
             }
         }
     }
@@ -63,6 +70,9 @@ impl From<AllocError> for Trouble {
         Trouble::OutOfMemory
     }
 }
+
+/// How many bytes of a disk tell its program, with one more that is read.
+const FRONT: u64 = 71;
 
 /// Names that can't be used: of the image or the disk of this path.
 #[derive(Clone, Copy)]
@@ -246,9 +256,43 @@ fn unusable<'a>(alloc: Global, disk: &'a str, trouble: Trouble) -> Beside<'a> {
     }
 }
 
+/// What a disk notes of its program. One that can't be read is as one that notes nothing: the job itself will say why.
+fn note_of_disk<R: Files<File = File>>(rt: &R, alloc: Global, disk: &str) -> Option<ProgramNote> {
+    let front = read_front(rt, alloc, disk, FRONT).ok()?;
+    let mut disk = MemoryDisk::new(alloc, front).ok()?;
+    read_note(&mut disk).ok()?
+}
+
+/// The names, unless the disk notes another program.
+pub fn of_program<R: Files<File = File>>(
+    rt: &R,
+    alloc: Global,
+    names: Names,
+    disk: &str,
+) -> Result<Names, Trouble> {
+    match note_of_disk(rt, alloc, disk) {
+        Some(note) if note.bytes != u64::from(names.length()) || note.digest != names.digest() => {
+            Err(Trouble::OtherProgram)
+        }
+        _ => Ok(names),
+    }
+}
+
+/// The names of the file beside a disk, where it has some.
+fn names_of_disk<R: Files<File = File>>(
+    rt: &R,
+    alloc: Global,
+    disk: &str,
+) -> Result<Option<Names>, Trouble> {
+    match names_of(rt, alloc, disk)? {
+        Some(names) => Ok(Some(of_program(rt, alloc, names, disk)?)),
+        None => Ok(None),
+    }
+}
+
 /// The names of a disk, for what is printed.
 fn of_disk<'a, R: Files<File = File>>(rt: &R, alloc: Global, disk: &'a str) -> Beside<'a> {
-    match names_of(rt, alloc, disk) {
+    match names_of_disk(rt, alloc, disk) {
         Ok(names) => printing(alloc, names),
         Err(trouble) => unusable(alloc, disk, trouble),
     }

@@ -1,8 +1,9 @@
 -- The making of a missing disk, where less is known of the disks.
-use Rattle.std.proofs.Common.{ℕ, List, Option, Result, inl, inr}
+use Rattle.std.proofs.Common.{◌≡◌, ℕ, List, Option, Some, None, Result, subst, inl, inr}
 use Rattle.ckrt_disk.specs.declared.disk.Disk.{Ghosts}
 use Rattle.ckrt_checkpoint.specs.declared.config.Config.{Config}
 use Rattle.ckrt_cli_disk.specs.Missing.{MakesMissing}
+use Rattle.ckrt_cli_disk.specs.Programs.{Compares, LooksAtProgram}
 use Rattle.ckrt_cli_files.specs.Openings.{Openings}
 use Rattle.ckrt_cli_faults.specs.declared.fault.JobFault.{JobFault}
 
@@ -20,3 +21,9 @@ makes_weaker d config known Fills Weaker image disk old new result are (inr (inr
   is_opened = are makes.start makes.is_opened;
   makes = makes.makes;
 })))
+
+-- the look at a disk that stands at its path, where the bytes of images are known elsewhere as well
+pub compares_same : {D : Type 0} (d : Ghosts D) (before after : List ℕ → Option (List ℕ)) (image : Option (List ℕ)) (start : D) (old new : Openings D) (result : Result D JobFault)
+    → ((path : List ℕ) → after path ≡ before path) → Compares d after image start old new result → Compares d before image start old new result
+compares_same d before after None start old new result same as_it_is = as_it_is
+compares_same d before after (Some path) start old new result same looks = subst (λ k. LooksAtProgram d k path start old new result) (same path) looks

@@ -5,6 +5,7 @@ pub mod Feeding
 pub mod Making
 pub mod Missing
 pub mod Printing
+pub mod Programs
 pub mod Running
 pub mod Showing
 pub mod Sizes

@@ -7,6 +7,7 @@ use Rattle.ckrt_checkpoint.specs.Layout.{is_valid}
 use Rattle.ckrt_stored.specs.declared.fault.FormatFault.{FormatFault}
 use Rattle.ckrt_stored.specs.declared.fault.FormatFault.TheVariants as format
 use Rattle.ckrt_cli_disk.specs.Making.{EndsOnImage, Formats, IsFit}
+use Rattle.ckrt_cli_disk.specs.Programs.{Compares}
 use Rattle.ckrt_cli_files.specs.Openings.{Openings, opened, refused, with_abandoned, with_disk, with_image, with_making, with_named}
 use Rattle.ckrt_cli_faults.specs.Outside.{Lacks}
 use Rattle.ckrt_cli_faults.specs.declared.fault.JobFault.{JobFault}
@@ -70,13 +71,13 @@ module _ {D : Type 0} (d : Ghosts D) (config : Config) (known : Option (List ℕ
 
 -- HOW A DRIVE COMES BY ITS DISK
 
--- it stands at the path
-pub record FindsThere {D : Type 0} (Opens : D → Type 0) (path : List ℕ) (old new : Openings D)
+-- it stands at the path, and is handed on unless it notes another program than that of the words' image
+pub record FindsThere {D : Type 0} (d : Ghosts D) (images : List ℕ → Option (List ℕ))
+    (Opens : D → Type 0) (path : List ℕ) (image : Option (List ℕ)) (old new : Openings D)
     (result : Result D JobFault) : Type 0 where
   pub start : D
-  pub is : result ≡ Ok start
   pub is_opened : Opens start
-  pub opens : new ≡ with_disk old (opened path)
+  pub compares : Compares d images image start (with_disk old (opened path)) new result
 
 -- it can't be opened, and isn't missing, or the words have no image for it
 pub record LacksDisk {D : Type 0} (path : List ℕ) (image : Option (List ℕ)) (old new : Openings D)
@@ -99,4 +100,4 @@ abbrev pub FindsDisk : {D : Type 0} → Ghosts D → Config → (images : List �
     → (Opens Fills : D → Type 0) → (path : List ℕ) → (image : Option (List ℕ))
     → (old new : Openings D) → Result D JobFault → Type 0
 FindsDisk d config images Opens Fills path image old new result =
-    FindsThere Opens path old new result ⊎ LacksDisk path image old new result ⊎ MakesDisk d config images Fills path image old new result
+    FindsThere d images Opens path image old new result ⊎ LacksDisk path image old new result ⊎ MakesDisk d config images Fills path image old new result

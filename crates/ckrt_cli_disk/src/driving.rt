@@ -426,7 +426,8 @@ fn drive_sized<'a, I: Read, D: Disk, S: Sources<'a, I, D>, W: Write + 'a, M: Met
 ///
 /// # Errors
 ///
-/// The first that applies: `Range`, before anything is opened; `File` of the disk, or what making it answers; `BadConfig` where
+/// The first that applies: `Range`, before anything is opened; `File` of the disk, or what making it answers; where it is there,
+/// what the image's fault is, and `ImageDiffers`, both before a byte of the disk is changed; `BadConfig` where
 /// it has other sizes than those of the words; what the input's fault is, before a byte of the disk is changed; `Recover`, before
 /// the output is asked for; `File` of the output; then what the drive answers.
 pub fn drive_path<'a, I: Read + Drop, D: Disk, S: Sources<'a, I, D>, W: Write + 'a, M: Meter>(

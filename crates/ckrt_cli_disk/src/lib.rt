@@ -34,6 +34,10 @@
 //! only once it is formatted, whole and durable, and else is given up; and it is the disk that is driven then. Sizes of the words
 //! that aren't those of a disk that is there are the fault SizesDiffer, with the disk's own.
 //!
+//! Proved of a disk that `drive` finds, with an image in its words: where it notes its program, and its image has another digest or
+//! length, that is the fault ImageDiffers, with both; else it is driven. Either way no byte of it is written before, and where it
+//! is refused it is closed as it was. The image is only read where the disk notes its program.
+//!
 //! Proved of `drive`: numbers out of their ranges are the fault Range, before anything is opened; the output is asked for
 //! only once the disk is recovered; the session that its content recovers to was driven as `ckrt_drive` says, step by step
 //! from the first round up to an end, with the options of the words; the program's status is the session's; and disk and
@@ -62,6 +66,7 @@ mod image;
 mod laws;
 mod making;
 mod missing;
+mod program;
 mod running;
 mod showing;
 mod sizes;

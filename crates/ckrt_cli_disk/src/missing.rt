@@ -13,6 +13,7 @@ ghost use Rattle.ckrt_cli_files.specs.declared.file.JobFile.TheVariants as file;
 
 use crate::feeding::spare_for;
 use crate::making::fitting_image;
+use crate::program::compared;
 use ckrt_cli_faults::{JobFault, config_for};
 use ckrt_cli_files::{FileFault, JobFile, Sources};
 use ckrt_cli_words::DriveJob;
@@ -133,11 +134,13 @@ fn is_missing(fault: FileFault) -> bool
     }
 }
 
-/// The disk of a drive: the one of its path, or, where nothing has that, one that is made with the image of its words.
+/// The disk of a drive: the one of its path, unless that is of another program than the image of its words; or, where nothing has
+/// the path, one that is made with that image.
 ///
 /// # Errors
 ///
-/// `File` of the disk, where it can't be opened, or is missing and the words have no image for it; else what making it answers.
+/// `File` of the disk, where it can't be opened, or is missing and the words have no image for it; what comparing it with the
+/// image answers; else what making it answers.
 pub(crate) fn find_disk<'a, I: Read + Drop, D: Disk, S: Sources<'a, I, D>>(
     alloc: Global,
     job: &DriveJob<'a>,
@@ -153,7 +156,7 @@ pub(crate) fn find_disk<'a, I: Read + Drop, D: Disk, S: Sources<'a, I, D>>(
         (S.gives sources.new)) }
 {
     let fault = match sources.open_disk(job.disk) {
-        Ok(disk) => return Ok(disk),
+        Ok(disk) => return compared::<I, D, S>(alloc, disk, job.image, sources),
         Err(fault) => fault,
     };
     match job.image {

@@ -55,6 +55,7 @@ name_of_drive (drive.Refused why) = codes "Refused"
 
 abbrev pub name_of : JobFault → List ℕ
 name_of (job.File at fault.OutOfMemory) = codes "OutOfMemory"
+name_of (job.File at fault.NotADisk) = codes "NotADisk"
 name_of (job.File at why) = codes "File"
 name_of job.OutOfMemory = codes "OutOfMemory"
 name_of (job.Format f) = name_of_format f
@@ -63,6 +64,7 @@ name_of (job.Serve f) = name_of_serve f
 name_of (job.Inspect f) = name_of_look f
 name_of job.Range = codes "Range"
 name_of (job.SizesDiffer c) = codes "BadConfig"
+name_of (job.ImageDiffers n) = codes "ImageDiffers"
 name_of (job.OutputDiffers l) = codes "OutputDiffers"
 name_of job.NotRecorded = codes "NotRecorded"
 name_of (job.OffsetDiffers taken) = codes "OffsetDiffers"

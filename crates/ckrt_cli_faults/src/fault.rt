@@ -3,6 +3,7 @@ ghost use Rattle.std.specs.Prelude.{◌≡◌};
 ghost use Rattle.ckrt_cli_faults.specs.Names.{name_of, name_of_drive, name_of_look};
 
 use crate::lengths::{InputLengths, OutputLengths};
+use crate::notes::ProgramNotes;
 use ckrt_cli_files::{FileFault, JobFile, OutputReason};
 use ckrt_drive::DriveFault;
 use ckrt_inspect::InspectFault;
@@ -28,6 +29,8 @@ pub enum JobFault {
     Range,
     /// The disk has these sizes, which aren't those that were asked for.
     SizesDiffer(Config),
+    /// The disk notes another program than that of the image.
+    ImageDiffers(ProgramNotes),
     /// The file of the output has another length than that of the disk.
     OutputDiffers(OutputLengths),
     /// The disk can't tell how much of its input its program has taken.
@@ -80,7 +83,7 @@ fn format_advice(fault: FormatFault) -> &'static str {
 fn recovery_advice(fault: RecoverFault) -> &'static str {
     match fault {
         RecoverFault::NotFormatted => {
-            "`ckrt format` didn't make it, or was stopped meanwhile: look at its path, or give that format again (docs/OPERATING.md)"
+            "it is no disk of ckrt, or its making was stopped: look at its path (docs/OPERATING.md)"
         }
         RecoverFault::Version => "another version of ckrt made it (docs/FILE_FORMAT.md)",
         RecoverFault::Damaged => {
@@ -166,6 +169,10 @@ const UNFIT_ADVICE: &str = "give another, or leave it out";
 /// What is said of a disk with other sizes than those that were asked for, behind its own.
 const SIZES_ADVICE: &str = "these stay; give them, or leave them out";
 
+/// What is said of a disk of another program than that of the image, behind the digests of both.
+const IMAGE_ADVICE: &str =
+    "to begin anew remove disk and output; to go on with the program of the disk leave --image out";
+
 /// What is said of a disk that can't tell how much of its input its program has taken.
 const NOT_RECORDED_ADVICE: &str =
     "it can't tell how much of the input its program has read, since it was last saved without one: `--input-from` says how many bytes that were then";
@@ -219,6 +226,7 @@ impl JobFault {
     {
         match self {
             JobFault::File(_, FileFault::OutOfMemory) => "OutOfMemory",
+            JobFault::File(_, FileFault::NotADisk) => "NotADisk",
             JobFault::File(_, _) => "File",
             JobFault::OutOfMemory
             | JobFault::Format(FormatFault::OutOfMemory)
@@ -240,6 +248,7 @@ impl JobFault {
             JobFault::Inspect(fault) => inspection_name(fault),
             JobFault::Range => "Range",
             JobFault::SizesDiffer(_) => "BadConfig",
+            JobFault::ImageDiffers(_) => "ImageDiffers",
             JobFault::OutputDiffers(_) => "OutputDiffers",
             JobFault::NotRecorded => "NotRecorded",
             JobFault::OffsetDiffers(_) => "OffsetDiffers",
@@ -264,6 +273,7 @@ impl JobFault {
             JobFault::Inspect(fault) => inspection_advice(fault),
             JobFault::Range => UNFIT_ADVICE,
             JobFault::SizesDiffer(_) => SIZES_ADVICE,
+            JobFault::ImageDiffers(_) => IMAGE_ADVICE,
             JobFault::OutputDiffers(lengths) => lengths_advice(lengths),
             JobFault::NotRecorded => NOT_RECORDED_ADVICE,
             JobFault::OffsetDiffers(_) => OFFSET_ADVICE,
@@ -299,6 +309,7 @@ impl JobFault {
                 | InspectFault::Range,
             ) => Some(JobFile::Disk),
             JobFault::SizesDiffer(_)
+            | JobFault::ImageDiffers(_)
             | JobFault::NotRecorded
             | JobFault::OffsetDiffers(_)
             | JobFault::Unrecorded

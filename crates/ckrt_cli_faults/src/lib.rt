@@ -10,6 +10,7 @@ mod done;
 mod driven;
 mod fault;
 mod lengths;
+mod notes;
 mod ranges;
 mod watch;
 
@@ -17,5 +18,6 @@ pub use done::Done;
 pub use driven::Driven;
 pub use fault::JobFault;
 pub use lengths::{InputLengths, OutputLengths};
+pub use notes::ProgramNotes;
 pub use ranges::{config_for, is_choice, is_hunt_in_range, is_in_range, is_target, is_time};
 pub use watch::{DrivePaths, Meter, Watch};

@@ -1,5 +1,5 @@
 -- How the program tells what a drive came to: a line on standard error.
-use Rattle.std.specs.Prelude.{ℕ, List, [], ◌∷◌, ◌++◌, codes, Option, Some, None}
+use Rattle.std.specs.Prelude.{ℕ, nat_eq, List, [], ◌∷◌, ◌++◌, codes, if◌then◌else◌, Option, Some, None}
 use Rattle.ckrt_state.specs.declared.table.Status.{Status}
 use Rattle.ckrt_state.specs.declared.table.Status.TheVariants as status
 use Rattle.ckrt_inspect.specs.Texts.{hex_text, status_text}
@@ -25,10 +25,20 @@ abbrev pub place_text : ℕ → Option ℕ → List ℕ
 place_text pc address =
     hex_between (codes "`guest/where PROGRAM.elf ") pc [] ++ (address_text address ++ hex_between (codes "` says where that is; so does `addr2line -e PROGRAM.elf ") pc (codes "`\n"))
 
--- they stand before a fault
+-- the status of a guest of the kit that couldn't begin, and what that means
+abbrev pub UNBEGUN : ℕ
+UNBEGUN = 126
+
+abbrev pub unbegun_text : List ℕ
+unbegun_text =
+    codes "exit 126: the guest couldn't begin, and its output says why; "
+    ++ codes "if it needs more pages, remove disk and output, and give it --pages\n"
+
+-- what stands before an end that the guest didn't choose: a fault, or no beginning
 abbrev pub hint_text : Status → Option ℕ → List ℕ
 hint_text (status.Faulted t pc c) address = place_text pc address
-hint_text status address = []
+hint_text (status.Exited code) address = if nat_eq code UNBEGUN then unbegun_text else []
+hint_text status.Running address = []
 
 -- how a program ended, as the inspector tells it, and what its fault is about
 abbrev pub ended_text : Status → Option ℕ → List ℕ

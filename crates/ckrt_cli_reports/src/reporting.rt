@@ -4,7 +4,7 @@ ghost use Rattle.std.specs.Io.KnownBytes.{Appends};
 ghost use Rattle.arrayvec.specs.ArrayVec.{array_vec_len};
 ghost use Rattle.ckrt_state.specs.declared.table.Status.TheVariants.{Exited, Faulted};
 ghost use Rattle.ckrt_inspect.specs.Texts.{hex_text, status_text};
-ghost use Rattle.ckrt_cli_reports.specs.Ends.{address_text, end_line, end_text, ended_text, hex_between, hint_text, place_text};
+ghost use Rattle.ckrt_cli_reports.specs.Ends.{address_text, end_line, end_text, ended_text, hex_between, hint_text, place_text, unbegun_text};
 ghost use Rattle.ckrt_cli_reports.specs.Lines.{EndsWith, ReportsOutcome, ReportsWords, Says, SaysLine, fault_line, formatted_line, version_line};
 ghost use Rattle.ckrt_cli_faults.specs.Statuses.{status_of, status_of_words};
 
@@ -79,6 +79,7 @@ fn say_piece<E: Reporter>(reporter: &mut E, piece: Piece<'_>) -> Result<(), Unsa
     match piece {
         Piece::Text(text) => reporter.say(text.as_bytes()),
         Piece::Number(number) => say_number(reporter, number),
+        Piece::Digest(digest) => say_digest(reporter, &digest),
     }
 }
 
@@ -145,6 +146,18 @@ fn say_number<E: Reporter>(reporter: &mut E, number: u64) -> Result<(), Unsaid>
 {
     let mut buffer = itoa::Buffer::new();
     reporter.say(buffer.format(number).as_bytes())
+}
+
+/// Says a digest in 64 hexadecimal digits.
+fn say_digest<E: Reporter>(reporter: &mut E, digest: &[u8; 32]) -> Result<(), Unsaid>
+    ensures said { OnOk result (Says (E.said reporter.old) (E.said reporter.new)) }
+    ensures failed { OnErr result (E.has_failed reporter.new ≡ true) }
+{
+    let mut digits = [0u8; 64];
+    match hex::encode_to_slice(digest, &mut digits) {
+        Ok(()) => reporter.say(&digits),
+        Err(_) => unreachable!(),
+    }
 }
 
 /// Says a pc in eight hexadecimal digits.
@@ -246,7 +259,19 @@ fn say_place<E: Reporter>(reporter: &mut E, pc: u32, address: Option<u32>) -> Re
     say_hex_between(reporter, other, pc, b"`\n")
 }
 
-/// Says what to do about a fault of the program, if that ended it.
+/// The status of a guest of the kit that couldn't begin.
+const UNBEGUN: u32 = 126;
+
+/// Says what that status means, and what to do.
+fn say_unbegun<E: Reporter>(reporter: &mut E) -> Result<(), Unsaid>
+    ensures said { OnOk result (Appends (E.said reporter.old) (E.said reporter.new) unbegun_text) }
+    ensures failed { OnErr result (E.has_failed reporter.new ≡ true) }
+{
+    reporter.say(b"exit 126: the guest couldn't begin, and its output says why; ")?;
+    reporter.say(b"if it needs more pages, remove disk and output, and give it --pages\n")
+}
+
+/// Says what to do about a fault of the program, if that ended it, or about a program that couldn't begin.
 fn say_hint<E: Reporter>(
     reporter: &mut E,
     status: Status,
@@ -258,7 +283,8 @@ fn say_hint<E: Reporter>(
 {
     match status {
         Status::Faulted(_, pc, _) => say_place(reporter, pc, address),
-        _ => reporter.say(b""),
+        Status::Exited(UNBEGUN) => say_unbegun(reporter),
+        Status::Exited(_) | Status::Running => reporter.say(b""),
     }
 }
 

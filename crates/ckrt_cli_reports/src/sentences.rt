@@ -5,16 +5,18 @@ use ckrt_cli_words::{DriveJob, HuntJob, Job, TimelineJob};
 use ckrt_events::LONG_RUN_LIMIT;
 use ckrt_recovery::{Config, FormatFault};
 
-/// A piece of what is said: a text, or a number in decimal.
+/// A piece of what is said: a text, a number in decimal, or a digest in hexadecimal digits.
 #[derive(Clone, Copy)]
 pub(crate) enum Piece<'a> {
     /// This text.
     Text(&'a str),
     /// This number.
     Number(u64),
+    /// This digest.
+    Digest([u8; 32]),
 }
 
-/// At most three numbers, with texts before, between and after them.
+/// At most three numbers or digests, with texts before, between and after them.
 pub(crate) type Sentence<'a> = [Piece<'a>; 7];
 
 /// No text.
@@ -165,6 +167,13 @@ pub(crate) fn numbers_of(job: &Job<'_>, fault: JobFault) -> Sentence<'static> {
         JobFault::Format(FormatFault::BadConfig) => unfit_sizes(job),
         JobFault::Range => unfit(job),
         JobFault::SizesDiffer(sizes) => sizes_of_disk(sizes),
+        JobFault::ImageDiffers(notes) => two(
+            "it was made with the image of SHA-256 digest ",
+            Piece::Digest(notes.disk.digest),
+            ", and this one has ",
+            Piece::Digest(notes.image.digest),
+            ": ",
+        ),
         JobFault::OutputDiffers(lengths) => [
             Piece::Text("it has "),
             Piece::Number(lengths.length),

@@ -20,7 +20,7 @@ use Rattle.ckrt_drive.specs.Stages.{Stage}
 use Rattle.ckrt_schedule.specs.Taken.{taken_by}
 use Rattle.ckrt_stored.specs.Programs.{Program, RecoversTo}
 use Rattle.ckrt_stored.specs.Recovery.{Recovered, Recovers, in_use}
-use Rattle.ckrt_stored.specs.Superblock.{MAGIC, superblock_in, superblock_of}
+use Rattle.ckrt_stored.specs.Superblock.{MAGIC, is_known_superblock, superblock_in, superblock_of}
 use Rattle.ckrt_stored.proofs.AreaLemmas.{IsInUse, is_in_use}
 use Rattle.ckrt_stored.proofs.GrowthLemmas.{used_by, uses}
 use Rattle.ckrt_stored.proofs.RecoverLemmas.{IsKnown, known, same_found, stays_by}
@@ -107,14 +107,14 @@ module _ (short tail : List ℕ) where
   superblock_stays c is =
       let b = take 32 short in
       let x : Config = config_in b in
-      let h = has_passed (nat_lt (length short) 32) (is_open b) (nat_eq (number_at 8 8 b) MAGIC) (nat_eq (number_at 4 16 b) 1) (is_valid x && nat_le (size_needed x) (length short)) x c is in
+      let h = has_passed (nat_lt (length short) 32) (is_open b) (nat_eq (number_at 8 8 b) MAGIC) (is_known_superblock (number_at 4 16 b)) (is_valid x && nat_le (size_needed x) (length short)) x c is in
       let long : 32 ≤ length short = not_short (length short) h.long in
       let both = within_both (is_valid x) (size_needed x) (length short) (length whole) no_shorter h.within in
       record {
         valid = subst (λ (y : Config). is_valid y ≡ true) h.is both.valid;
         fits = subst (λ (y : Config). size_needed y ≤ length short) h.is both.fits;
         stays = ap (λ (l : List ℕ). if nat_lt (length whole) 32 then Err NotFormatted else superblock_in (length whole) l) (take-append-le 32 short tail long)
-            ∙ passes (nat_lt (length whole) 32) (is_open b) (nat_eq (number_at 8 8 b) MAGIC) (nat_eq (number_at 4 16 b) 1) (is_valid x && nat_le (size_needed x) (length whole)) x c
+            ∙ passes (nat_lt (length whole) 32) (is_open b) (nat_eq (number_at 8 8 b) MAGIC) (is_known_superblock (number_at 4 16 b)) (is_valid x && nat_le (size_needed x) (length whole)) x c
             (record { long = still_long (length short) (length whole) long no_shorter; opened = h.opened; magic = h.magic; version = h.version; within = both.still; is = h.is });
       }
 

@@ -6,13 +6,14 @@ use Rattle.ckrt_disk.specs.declared.disk.Disk.{Ghosts}
 use Rattle.ckrt_stored.specs.declared.fault.RecoverFault.{RecoverFault}
 use Rattle.ckrt_stored.specs.declared.fault.RecoverFault.TheVariants as recover
 use Rattle.ckrt_stored.specs.Recovery.{Recovered, Recovers}
+use Rattle.ckrt_stored.specs.Superblock.{note_of}
 use Rattle.ckrt_stored.specs.Past.{HasPast}
 use Rattle.ckrt_stored.specs.declared.progress.Progress.{Progress}
 use Rattle.ckrt_stored.specs.Progress.{recovered_of}
 use Rattle.ckrt_inspect.specs.declared.fault.InspectFault.{InspectFault}
 use Rattle.ckrt_inspect.specs.declared.fault.InspectFault.TheVariants.{NotFormatted, Version, Damaged, Device, OutOfMemory, Write, Range}
 use Rattle.ckrt_inspect.specs.declared.shown.Shown.{Shown}
-use Rattle.ckrt_inspect.specs.Listing.{listing_by}
+use Rattle.ckrt_inspect.specs.Listing.{disk_listing}
 
 -- a fault of recovery, as one of the inspector
 abbrev pub of_recovery : RecoverFault → InspectFault
@@ -32,11 +33,12 @@ abbrev pub HasNone : Option ℕ → List ℕ → Type 0
 HasNone None image = ⊥
 HasNone (Some count) image = HasPast count image (Ok None)
 
--- the program that an image recovers to was written after what the writer had, as it is to be shown
+-- the program that an image recovers to was written after what the writer had, as it is to be shown, with what the image notes of it
 pub record IsListed (shown : Shown) (image : List ℕ) (old new : Option (List ℕ)) : Type 0 where
   pub recovered : Recovered
   pub recovers : RecoversAt shown.at image recovered
-  pub written : Appends old new (listing_by shown.with_code recovered.count recovered.state)
+  pub written : Appends old new
+      (disk_listing shown.with_code recovered.count recovered.state (note_of image))
 
 -- what a fault says of the image; Device, OutOfMemory and Write say nothing of it
 abbrev pub IsFaultOf : Option ℕ → List ℕ → InspectFault → Type 0

@@ -20,6 +20,8 @@ use Rattle.ckrt_tables.specs.Records.{id_or_0, readers_of, words_from, value_wor
 use Rattle.ckrt_state.specs.declared.table.Status.{Status}
 use Rattle.ckrt_state.specs.declared.table.Tables.{Tables}
 use Rattle.ckrt_machine.specs.Steps.{State}
+use Rattle.hex.specs.Hex.{encode_lower}
+use Rattle.ckrt_stored.specs.declared.note.ProgramNote.{ProgramNote}
 use Rattle.ckrt_inspect.specs.Texts.{flag_text, hex_text, kind_text, reason_text, status_text}
 use Rattle.ckrt_inspect.specs.Code.{code_lines}
 
@@ -169,3 +171,13 @@ listing_by with_code count s =
     ++ all_thread_lines with_code s.bytes s.tables.threads
     ++ object_lines s.tables
     ++ all_key_lines s.tables.threads
+
+-- `program DIGEST BYTES`, where the disk notes its program
+abbrev pub program_line : Option ProgramNote → List ℕ
+program_line None = []
+program_line (Some note) =
+    codes "program " ++ encode_lower note.digest ++ codes " " ++ decimal note.bytes ++ codes "\n"
+
+-- the same program, as a disk with this note has it
+abbrev pub disk_listing : (with_code : Bool) (count : ℕ) → State → Option ProgramNote → List ℕ
+disk_listing with_code count s note = listing_by with_code count s ++ program_line note

@@ -1,14 +1,15 @@
 //! Listing the program of a disk.
-ghost use Rattle.std.specs.Prelude.{◌≡◌, ◌≢◌, IfErr, None, Some, false};
+ghost use Rattle.std.specs.Prelude.{◌≡◌, ◌≢◌, IfErr, IfOk, None, Some, false};
 ghost use Rattle.ckrt_disk.specs.Frame.{IsOnlyRead};
-ghost use Rattle.ckrt_inspect.specs.declared.fault.InspectFault.TheVariants.{Range, Write as Writing};
+ghost use Rattle.ckrt_inspect.specs.declared.fault.InspectFault.TheVariants.{Device, Range, Write as Writing};
+ghost use Rattle.ckrt_stored.specs.Superblock.{note_of};
 ghost use Rattle.ckrt_inspect.specs.Inspect.{AgreesAt, IsInspected, Tells, is_device};
 
 use crate::fault::InspectFault;
-use crate::listing::write_listing_by;
+use crate::listing::write_disk_listing;
 use crate::shown::Shown;
 use ckrt_disk::Disk;
-use ckrt_stored::{Progress, read_past, read_progress};
+use ckrt_stored::{ProgramNote, Progress, read_note, read_past, read_progress};
 use std::alloc::Global;
 use std::io::Write;
 
@@ -64,8 +65,21 @@ pub fn read_program<D: Disk>(
     }
 }
 
+/// What a disk notes of its program.
+fn noted<D: Disk>(disk: &mut D) -> Result<Option<ProgramNote>, InspectFault>
+    ensures exact { IfOk result
+        (λ note. D.is_honest disk.new → note ≡ note_of (D.content disk.old)) }
+    ensures read { IsOnlyRead D.Disk disk.old disk.new (is_device result) }
+    ensures device { IfErr result (λ e. e ≡ Device) }
+{
+    match read_note(disk) {
+        Ok(note) => Ok(note),
+        Err(_) => Err(InspectFault::Device),
+    }
+}
+
 /// Lists what a disk's content recovers to, or what it recovered to after that many events, with or without code: recovers
-/// it, without a sync, and writes the listing. The disk is only read: it is neither written nor synced, at any moment.
+/// it, without a sync, and writes the listing, with what the disk notes of its program. The disk is only read: it is neither written nor synced, at any moment.
 ///
 /// # Errors
 ///
@@ -85,13 +99,8 @@ pub fn inspect_with<D: Disk, W: Write>(
     ensures range { shown.at ≡ None → IfErr result (λ e. e ≢ Range) }
 {
     let progress = read_program(alloc, disk, shown.at)?;
-    write_listing_by(
-        alloc,
-        shown.with_code,
-        progress.count,
-        &progress.machine,
-        writer,
-    )
+    let note = noted(disk)?;
+    write_disk_listing(alloc, shown.with_code, &progress, &note, writer)
 }
 
 /// Lists what a disk's content recovers to: [`inspect_with`], with nothing but the plain listing. The disk isn't handed

@@ -1,8 +1,9 @@
 //! The listing of a program.
-ghost use Rattle.std.specs.Prelude.{◌≡◌, ◌≢◌, ◌⊎◌, ◌++◌, false, true, IfOk, IfErr, OnOk};
+ghost use Rattle.std.specs.Prelude.{◌≡◌, ◌≢◌, ◌⊎◌, ◌++◌, false, true, Some, IfOk, IfErr, OnOk};
 ghost use Rattle.std.specs.Io.KnownBytes.{Appends};
+ghost use Rattle.hex.specs.Hex.{encode_lower};
 ghost use Rattle.ckrt_inspect.specs.declared.fault.InspectFault.TheVariants.{OutOfMemory, Write as Writing};
-ghost use Rattle.ckrt_inspect.specs.Listing.{clock_line, events_line, head_lines, listing_by, status_line};
+ghost use Rattle.ckrt_inspect.specs.Listing.{clock_line, disk_listing, events_line, head_lines, listing_by, program_line, status_line};
 
 use crate::fault::InspectFault;
 use crate::keys::push_all_keys;
@@ -11,6 +12,7 @@ use crate::texts::{push, push_number, push_status};
 use crate::threads::push_all_threads;
 use ckrt_machine::Machine;
 use ckrt_state::{Status, Tables};
+use ckrt_stored::{ProgramNote, Progress};
 use std::alloc::{AllocError, Global};
 use std::io::Write;
 
@@ -45,6 +47,37 @@ fn push_head(out: &mut Vec<u8>, count: u64, tables: &Tables) -> Result<(), Alloc
     push_events(out, count)?;
     push_clock(out, tables.clock)?;
     push_status_line(out, tables.status)
+}
+
+/// A digest: 64 hexadecimal digits.
+fn push_digest(out: &mut Vec<u8>, digest: &[u8; 32]) -> Result<(), AllocError>
+    ensures { OnOk result (out.new.items ≡ out.old.items ++ encode_lower digest.now) }
+{
+    let mut digits = [0u8; 64];
+    match hex::encode_to_slice(digest, &mut digits) {
+        Ok(()) => out.extend_from_slice(&digits),
+        Err(_) => unreachable!(),
+    }
+}
+
+fn push_note(out: &mut Vec<u8>, note: &ProgramNote) -> Result<(), AllocError>
+    ensures { OnOk result (out.new.items ≡ out.old.items ++ program_line (Some note.now)) }
+{
+    push(out, b"program ")?;
+    push_digest(out, &note.digest)?;
+    push(out, b" ")?;
+    push_number(out, note.bytes)?;
+    push(out, b"\n")
+}
+
+/// What a disk notes of its program, if it does.
+fn push_program(out: &mut Vec<u8>, note: &Option<ProgramNote>) -> Result<(), AllocError>
+    ensures { OnOk result (out.new.items ≡ out.old.items ++ program_line note.now) }
+{
+    match note {
+        Some(note) => push_note(out, note),
+        None => Ok(()),
+    }
 }
 
 /// The listing of a program after that many events.
@@ -91,6 +124,24 @@ pub(crate) fn write_listing_by<W: Write>(
     ensures unwritten { IfErr result (λ e. e ≢ Writing → writer.new ≡ writer.old) }
 {
     let text = listing(alloc, with_code, count, machine)?;
+    write_text(writer, &text)
+}
+
+/// The same of the program of a disk, with what that notes of it.
+pub(crate) fn write_disk_listing<W: Write>(
+    alloc: Global,
+    with_code: bool,
+    progress: &Progress,
+    note: &Option<ProgramNote>,
+    writer: &mut W,
+) -> Result<(), InspectFault>
+    ensures ok { OnOk result (Appends (W.contents writer.old) (W.contents writer.new)
+        (disk_listing with_code progress.now.count progress.now.machine.state note.now)) }
+    ensures fault { IfErr result (λ e. (e ≡ OutOfMemory) ⊎ (e ≡ Writing)) }
+    ensures unwritten { IfErr result (λ e. e ≢ Writing → writer.new ≡ writer.old) }
+{
+    let mut text = listing(alloc, with_code, progress.count, &progress.machine)?;
+    push_program(&mut text, note)?;
     write_text(writer, &text)
 }
 

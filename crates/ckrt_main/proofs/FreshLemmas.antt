@@ -24,7 +24,7 @@ pub view_of_fresh : {D : Type 0} {g : Ghosts D} (config : Config) (image : List 
     → view_of s ≡ opened (recovered_of s.progress) → view_of s ≡ fresh config image
 view_of_fresh config image s content is found_by view =
     let p : Program = formatted_program config image in
-    view ∙ ap opened (recovered_once content (recovered_of s.progress) (formatted p) found_by is)
+    view ∙ ap opened (recovered_once content (recovered_of s.progress) (formatted p) found_by is.recovers)
 
 -- a disk that never fails counts no failure
 pub none_failed : ¬ HasFailed 0 0
@@ -32,7 +32,7 @@ none_failed h = ⊎_elim (λ (lt : _). omega (arith, lt)) (λ (le : _). omega (a
 
 no_fault : (config : Config) (image content : List ℕ) (fault : RecoverFault) → IsFormatted config image content → Recovers content (Err fault) → ⊥
 no_fault config image content fault is found =
-    let both : ◌≡◌ {A = Result Recovered RecoverFault} (Ok (formatted (formatted_program config image))) (Err fault) = recovers_once content _ _ is found in
+    let both : ◌≡◌ {A = Result Recovered RecoverFault} (Ok (formatted (formatted_program config image))) (Err fault) = recovers_once content _ _ is.recovers found in
     absurd (cc)
 
 -- and nothing but want of memory keeps it from being recovered

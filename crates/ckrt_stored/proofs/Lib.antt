@@ -8,6 +8,7 @@ pub mod PastFaultLemmas
 pub mod PageLemmas
 mod SaveLemmas
 mod FormatLemmas
+mod NoteLemmas
 mod FillLemmas
 pub mod EmptyingLemmas
 pub mod RowLemmas

@@ -37,14 +37,14 @@ pub record HasFreshArea (c : Config) (memory content : List ℕ) : Type 0 where
   pub pages : HasBytes content (memory_at c 0) memory
 
 -- all that a freshly formatted disk has besides its first gate
-pub record IsFresh (c : Config) (memory content : List ℕ) : Type 0 where
+pub record IsFresh (c : Config) (guest memory content : List ℕ) : Type 0 where
   pub area : HasFreshArea c memory content
   pub journal : HasBytes content (journal_at c 0) (CLOSED ∷ [])
   pub other_area : HasBytes content (area_at c 1) (CLOSED ∷ [])
-  pub superblock : HasBytes content 8 (superblock_fields c)
+  pub superblock : HasBytes content 8 (superblock_fields c guest)
 
 -- a disk whose area 0 has some memory and no event has all of it now
-abbrev pub BecomesFresh : Config → List ℕ → List ℕ → Type 0
-BecomesFresh c old new =
+abbrev pub BecomesFresh : Config → (guest old new : List ℕ) → Type 0
+BecomesFresh c guest old new =
     (memory : List ℕ) → length memory ≡ memory_size c → HasFreshArea c memory old
-    → IsFresh c memory new
+    → IsFresh c guest memory new

@@ -10,6 +10,7 @@ use Rattle.ckrt_stored.specs.declared.fault.RecoverFault.TheVariants.{NotFormatt
 use Rattle.ckrt_checkpoint.specs.Layout.{is_valid, memory_size, size_needed, journal_at, is_open}
 use Rattle.ckrt_stored.specs.Recovery.{Recovers}
 use Rattle.ckrt_stored.specs.Programs.{RecoversToStart, formatted_program}
+use Rattle.ckrt_stored.specs.Superblock.{note_for, note_of}
 
 -- Why a disk of that many bytes isn't formatted with this configuration and this image: the first that applies.
 abbrev pub format_refusal : ℕ → Config → List ℕ → Option FormatFault
@@ -28,9 +29,12 @@ IsRefusal AlreadyFormatted = ⊥
 IsRefusal Device = ⊥
 IsRefusal OutOfMemory = ⊥
 
--- the image recovers to a program that hasn't begun, with this configuration and this guest image
-abbrev pub IsFormatted : Config → List ℕ → List ℕ → Type 0
-IsFormatted c guest image = RecoversToStart (formatted_program c guest) image
+-- The image is that of a program that hasn't begun, with this configuration and this guest image.
+pub record IsFormatted (c : Config) (guest image : List ℕ) : Type 0 where
+  -- what it recovers to
+  pub recovers : RecoversToStart (formatted_program c guest) image
+  -- and the program that its superblock notes
+  pub noted : note_of image ≡ Some (note_for guest)
 
 -- What a stop of formatting may leave: an image that was possible before it, one that isn't formatted, or one that is and has no event.
 abbrev pub IsFormatting : {D : Type 0} → Config → List ℕ → Ghosts D → D → List ℕ → Type 0

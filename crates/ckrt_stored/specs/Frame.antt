@@ -10,7 +10,7 @@ use Rattle.ckrt_checkpoint.specs.declared.area.Area.{Area}
 use Rattle.ckrt_checkpoint.specs.declared.config.Config.{Config}
 use Rattle.ckrt_checkpoint.specs.Areas.{checked_area}
 use Rattle.ckrt_checkpoint.specs.Layout.{area_at, area_size, header_of, is_open, journal_at, journal_of, memory_of, size_needed, tables_of}
-use Rattle.ckrt_stored.specs.Superblock.{superblock_of}
+use Rattle.ckrt_stored.specs.Superblock.{note_of, superblock_of}
 use Rattle.ckrt_stored.specs.Recovery.{Recovered, Recovers, is_end_in_range, unreplayed}
 
 -- the bytes of an area and of its journal
@@ -34,6 +34,12 @@ abbrev pub IsSpareFree : Type 0
 IsSpareFree =
     (before image : List ℕ) (r : Recovered) → Recovers before (Ok r)
     → IsSameOutside (IsSpare r.config) before image → Recovers image (Ok r)
+
+-- Note: the note of a disk's program stands in its first 72 bytes, and no other byte matters to it.
+abbrev pub IsNoteApart : Type 0
+IsNoteApart =
+    (before image : List ℕ) → IsSameOutside (λ i. 72 ≤ i) before image
+    → note_of image ≡ note_of before
 
 -- An area holds a state whole, and its journal has no batch.
 pub record HoldsState (c : Config) (area : Area) (memory : List ℕ) (s : Saved) (image : List ℕ)

@@ -2,15 +2,22 @@
 ghost use Rattle.std.specs.Prelude.{◌≡◌, ◌≢◌, Err, ◌≤◌, length, IfOk, true};
 ghost use Rattle.ckrt_stored.specs.declared.fault.RecoverFault.TheVariants.{Device, OutOfMemory};
 ghost use Rattle.ckrt_checkpoint.specs.Layout.{is_valid, size_needed};
-ghost use Rattle.ckrt_stored.specs.Superblock.{config_within, superblock_in, superblock_fields};
+ghost use Rattle.ckrt_stored.specs.Superblock.{config_within, note_in, superblock_in, superblock_fields};
 ghost use Rattle.ckrt_stored.specs.Recovery.{Agrees, Is};
 
 use crate::fault::RecoverFault;
+use crate::note::{ProgramNote, note_for};
 use arrayvec::ArrayVec;
 use ckrt_checkpoint::{Config, FIELDS_AT, OPEN, SUPERBLOCK_VERSION, number_32, number_64, put};
 
 /// How many bytes of a superblock are read.
 pub(crate) const SUPERBLOCK_BYTES: usize = 32;
+
+/// How many bytes of a superblock have the note of its program, with all that stands before it.
+pub(crate) const NOTE_BYTES: usize = 72;
+
+/// The version of a superblock that has a note of its program.
+const NOTED_VERSION: u32 = 3;
 
 /// "CKRTDISK".
 const MAGIC: u64 = 0x4b53_4944_5452_4b43;
@@ -41,7 +48,8 @@ pub(crate) fn superblock(size: usize, block: &[u8]) -> Result<Config, RecoverFau
     if block[0] != OPEN || number_64(block, FIELDS_AT) != MAGIC {
         return Err(RecoverFault::NotFormatted);
     }
-    if number_32(block, 16) != SUPERBLOCK_VERSION {
+    let version = number_32(block, 16);
+    if version != SUPERBLOCK_VERSION && version != NOTED_VERSION {
         return Err(RecoverFault::Version);
     }
     let config = config_within(
@@ -55,15 +63,37 @@ pub(crate) fn superblock(size: usize, block: &[u8]) -> Result<Config, RecoverFau
     Ok(config)
 }
 
-/// The fields of a superblock, from its byte 8 on.
-pub(crate) fn superblock_fields(config: &Config) -> ArrayVec<u8, 24>
-    ensures { result.items ≡ superblock_fields config.now }
+/// The note that a superblock's first 72 bytes have, if they have one.
+pub(crate) fn note_in(block: &[u8]) -> Option<ProgramNote>
+    requires { length block.now ≡ 72 }
+    ensures { result ≡ note_in block.now }
 {
+    if block[0] != OPEN
+        || number_64(block, FIELDS_AT) != MAGIC
+        || number_32(block, 16) != NOTED_VERSION
+    {
+        return None;
+    }
+    let mut digest = [0; 32];
+    digest.copy_from_slice(&block[32..64]);
+    Some(ProgramNote {
+        digest,
+        bytes: number_64(block, 64),
+    })
+}
+
+/// The fields of a superblock, from its byte 8 on, for a program with this image.
+pub(crate) fn superblock_fields(config: &Config, image: &[u8]) -> ArrayVec<u8, 64>
+    ensures { result.items ≡ superblock_fields config.now image.now }
+{
+    let note = note_for(image);
     let mut fields = ArrayVec::new();
     put(&mut fields, &MAGIC.to_le_bytes());
-    put(&mut fields, &SUPERBLOCK_VERSION.to_le_bytes());
+    put(&mut fields, &NOTED_VERSION.to_le_bytes());
     put(&mut fields, &config.pages.to_le_bytes());
     put(&mut fields, &config.harts.to_le_bytes());
     put(&mut fields, &config.journal.to_le_bytes());
+    put(&mut fields, &note.digest);
+    put(&mut fields, &note.bytes.to_le_bytes());
     fields
 }

@@ -108,16 +108,16 @@ fn write_area<D: Disk>(disk: &mut D, config: &Config, memory: &[u8]) -> Result<(
     write_part(disk, config.memory_at(0), memory)
 }
 
-/// No batch in journal 0, area 1 closed, and the superblock's fields.
-fn write_blocks<D: Disk>(disk: &mut D, config: &Config) -> Result<(), DeviceFault>
+/// No batch in journal 0, area 1 closed, and the superblock's fields, with the note of the image.
+fn write_blocks<D: Disk>(disk: &mut D, config: &Config, image: &[u8]) -> Result<(), DeviceFault>
     requires valid { is_valid config.now ≡ true }
     requires room { size_needed config.now ≤ D.size disk.old }
     ensures within { WritesWithin D.Disk (FormatsBehindGate config.now) 3 disk.old disk.new
         (is_err result) }
     ensures written { OnOk result (D.is_honest disk.new
-        → BecomesFresh config.now (D.content disk.old) (D.content disk.new)) }
+        → BecomesFresh config.now image.now (D.content disk.old) (D.content disk.new)) }
 {
-    let superblock = superblock_fields(config);
+    let superblock = superblock_fields(config, image);
     write_part(disk, config.journal_at(0), &[CLOSED])?;
     write_part(disk, config.area_at(1), &[CLOSED])?;
     write_part(disk, FIELDS_AT, superblock.as_slice())
@@ -127,6 +127,7 @@ fn write_blocks<D: Disk>(disk: &mut D, config: &Config) -> Result<(), DeviceFaul
 fn write_behind_gate<D: Disk>(
     disk: &mut D,
     config: &Config,
+    image: &[u8],
     memory: &[u8],
 ) -> Result<(), DeviceFault>
     requires valid { is_valid config.now ≡ true }
@@ -135,16 +136,16 @@ fn write_behind_gate<D: Disk>(
     ensures within { WritesWithin D.Disk (FormatsBehindGate config.now) 8 disk.old disk.new
         (is_err result) }
     ensures written { OnOk result
-        (D.is_honest disk.new → IsFresh config.now memory.now (D.content disk.new)) }
+        (D.is_honest disk.new → IsFresh config.now image.now memory.now (D.content disk.new)) }
     ensures nothing_pending { OnOk result
         (D.is_honest disk.new → (i : ℕ) → ¬ D.pending disk.new i) }
 {
     write_area(disk, config, memory)?;
-    write_blocks(disk, config)?;
+    write_blocks(disk, config, image)?;
     disk.sync()
 }
 
-/// Formats a disk for a guest's image: a program that hasn't begun. The first that applies of these refuses it, and
+/// Formats a disk for a guest's image, which it notes: a program that hasn't begun. The first that applies of these refuses it, and
 /// nothing is changed: `BadConfig` where the configuration is out of its ranges, `ImageTooLong` where the image has more
 /// bytes than the guest's memory, 4,096·(pages - 1), `TooSmall` where the disk has fewer bytes than the configuration
 /// needs, `OutOfMemory` where there was no memory for a copy of the guest's memory. Then it syncs and reads the first
@@ -170,7 +171,7 @@ pub fn format<D: Disk>(
     if is_formatted(disk)? {
         return Err(FormatFault::AlreadyFormatted);
     }
-    write_behind_gate(disk, &config, &memory)?;
+    write_behind_gate(disk, &config, image, &memory)?;
     write_synced(disk, 0, &[OPEN])?;
     Ok(())
 }

@@ -1,5 +1,5 @@
 //! Laws of what an image recovers to. Each is the contract of a function with an empty body.
-ghost use Rattle.ckrt_stored.specs.Frame.{IsFramed, IsSpareFree, IsSwitched};
+ghost use Rattle.ckrt_stored.specs.Frame.{IsFramed, IsNoteApart, IsSpareFree, IsSwitched};
 ghost use Rattle.ckrt_stored.specs.Past.{PastFaultIsWhole};
 ghost use Rattle.ckrt_stored.specs.Recovery.{RecoversOnce};
 
@@ -17,6 +17,11 @@ pub fn unused_area_is_free()
 /// The bytes after those that the configuration needs don't matter to what an image recovers to.
 pub fn spare_bytes_are_free()
     ensures { IsSpareFree }
+{}
+
+/// What a disk notes of its program stands in its first 72 bytes, which nothing but formatting writes.
+pub fn note_stands_in_the_superblock()
+    ensures { IsNoteApart }
 {}
 
 /// An image recovers to the state that its newest open area holds, where the area's journal has no batch.

@@ -23,6 +23,7 @@ mod formatting;
 mod fresh;
 mod laws;
 mod memory;
+mod note;
 mod objects;
 mod past;
 mod progress;
@@ -36,11 +37,12 @@ pub use fault::{FormatFault, RecoverFault};
 pub use filling::{SMALLEST_DISK, fill_up};
 pub use formatting::format;
 pub use laws::{
-    images_recover_once, newest_area_takes_over, past_of_an_image_has_its_faults,
-    spare_bytes_are_free, unused_area_is_free,
+    images_recover_once, newest_area_takes_over, note_stands_in_the_superblock,
+    past_of_an_image_has_its_faults, spare_bytes_are_free, unused_area_is_free,
 };
 pub use memory::restore_memory;
+pub use note::{ProgramNote, note_for};
 pub use past::read_past;
 pub use progress::Progress;
-pub use reading::{ends_in_range, read_in_use, read_progress};
+pub use reading::{ends_in_range, read_in_use, read_note, read_progress};
 pub use tables::restore_tables;

@@ -22,7 +22,7 @@ const HOLDS_A_PROGRAM: &str =
 
 /// The listing of a program that hasn't begun.
 const FRESH: &str =
-    "events 0\nclock 0\nstatus running\nhart 0 idle\nthread 1 joinable ready pc 00001000 enabled deferred none handlers 0\n";
+    "events 0\nclock 0\nstatus running\nhart 0 idle\nthread 1 joinable ready pc 00001000 enabled deferred none handlers 0\nprogram 0e6376304a4316bffed9623510f220e728ef4485ff15af18d591aff9d191d3e4 24\n";
 
 /// A disk that is made, shown, run and run again.
 const RUNS: &[Step] = &[
@@ -65,7 +65,7 @@ fn defaults_have_their_size(rt: HostRuntime) {
 }
 
 const SOMEBODYS: &str =
-    "the disk jobs_c.disk: it is no disk, and is unchanged; move it away, or give another path\nckrt: File\n";
+    "the disk jobs_c.disk: it is no disk, and is unchanged; move it away, or give another path\nckrt: NotADisk\n";
 
 /// A file of 348,170 bytes is refused where they are somebody's, and is as it was. Where they are zeros it becomes a disk, and the last ten of
 /// them stay.
@@ -97,7 +97,7 @@ const OPEN_GATE: &str =
     "the disk jobs_j.disk: it holds a program already, and is unchanged; `ckrt drive` goes on with it\nckrt: AlreadyFormatted\n";
 
 const NO_DISK: &str =
-    "the disk jobs_j.disk: it is no disk, and is unchanged; move it away, or give another path\nckrt: File\n";
+    "the disk jobs_j.disk: it is no disk, and is unchanged; move it away, or give another path\nckrt: NotADisk\n";
 
 /// Files whose first byte is an open gate: shorter than any disk, or by a byte, they are somebody's; one that is as long may be a disk.
 const OPEN_GATES: &[Step] = &[
@@ -213,7 +213,7 @@ fn an_image_that_cant_be_read_is_refused(rt: HostRuntime) {
 const ABSENT_DISK: &str = "the disk jobs_none.disk: there is no such file\nckrt: File\n";
 
 const SHORT_DISK: &str =
-    "the disk jobs_e.disk: `ckrt format` didn't make it, or was stopped meanwhile: look at its path, or give that format again (docs/OPERATING.md)\nckrt: NotFormatted\n";
+    "the disk jobs_e.disk: it is no disk of ckrt, or its making was stopped: look at its path (docs/OPERATING.md)\nckrt: NotFormatted\n";
 
 /// A folder that nobody locks: the one in which tests run may be locked.
 const ROOT_FOLDER: &str = "the disk /: it is a directory\nckrt: File\n";
@@ -243,7 +243,7 @@ fn lock<R: Abort>(rt: &R, file: &File) {
 const DISK_IN_USE: &str = "the disk jobs_f.disk: another program has it locked\nckrt: File\n";
 
 const EMPTY_DISK: &str =
-    "the disk jobs_f.disk: `ckrt format` didn't make it, or was stopped meanwhile: look at its path, or give that format again (docs/OPERATING.md)\nckrt: NotFormatted\n";
+    "the disk jobs_f.disk: it is no disk of ckrt, or its making was stopped: look at its path (docs/OPERATING.md)\nckrt: NotFormatted\n";
 
 const IN_USE: &[Step] = &[
     Fails("run jobs_f.disk", DISK_IN_USE),

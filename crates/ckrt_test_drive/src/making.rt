@@ -6,7 +6,7 @@ use ckrt_test_data::IMAGE;
 
 /// The listing of a program that hasn't begun.
 const FRESH: &str =
-    "events 0\nclock 0\nstatus running\nhart 0 idle\nthread 1 joinable ready pc 00001000 enabled deferred none handlers 0\n";
+    "events 0\nclock 0\nstatus running\nhart 0 idle\nthread 1 joinable ready pc 00001000 enabled deferred none handlers 0\nprogram 0e6376304a4316bffed9623510f220e728ef4485ff15af18d591aff9d191d3e4 24\n";
 
 const OTHER_SIZES: &str =
     "the disk making_a.disk: it has --pages 16 --harts 1 --journal 4096: these stay; give them, or leave them out\nckrt: BadConfig\n";
@@ -29,13 +29,9 @@ const MAKES: &[Step] = &[
         "ended: exit 0\n",
         0,
     ),
-    // what isn't given isn't compared, and the image isn't looked at; the byte was confirmed by the checkpoint after it
-    Ends(
-        "drive making_a.disk --image making_none.img",
-        "",
-        "ended: exit 0\n",
-        0,
-    ),
+    // what isn't given isn't compared; the byte was confirmed by the checkpoint after it
+    Ends("drive making_a.disk", "", "ended: exit 0\n", 0),
+    Fails("drive making_a.disk --image making_none.img", ABSENT_IMAGE),
     Fails("drive making_a.disk --pages 17", OTHER_SIZES),
     Fails("drive making_a.disk --harts 2 --pages 16", OTHER_SIZES),
     Fails("drive making_a.disk --journal 8192", OTHER_SIZES),
@@ -54,6 +50,64 @@ const MAKES: &[Step] = &[
 #[test]
 fn a_missing_disk_is_made_and_goes_on(rt: HostRuntime) {
     play(&rt, MAKES);
+}
+
+/// Images that put a B in place of an A, and that have a zero more, which the guest's memory doesn't tell.
+const OF_B: [u8; 24] = [
+    0x13, 0x05, 0x20, 0x04, 0x93, 0x08, 0x20, 0x00, 0x73, 0x00, 0x00, 0x00, 0x13, 0x05, 0x00, 0x00,
+    0x93, 0x08, 0x10, 0x00, 0x73, 0x00, 0x00, 0x00,
+];
+
+const LONGER: [u8; 25] = [
+    0x13, 0x05, 0x10, 0x04, 0x93, 0x08, 0x20, 0x00, 0x73, 0x00, 0x00, 0x00, 0x13, 0x05, 0x00, 0x00,
+    0x93, 0x08, 0x10, 0x00, 0x73, 0x00, 0x00, 0x00, 0x00,
+];
+
+/// The digests are those of `sha256sum`.
+const ANOTHER: &str =
+    "the disk making_d.disk: it was made with the image of SHA-256 digest 0e6376304a4316bffed9623510f220e728ef4485ff15af18d591aff9d191d3e4, and this one has 1858650d299a77447e19e5de5c1d3c40d2a3babf0c4a047d1ea20bd92e7ce33a: to begin anew remove disk and output; to go on with the program of the disk leave --image out\nckrt: ImageDiffers\n";
+
+const ONE_MORE: &str =
+    "the disk making_d.disk: it was made with the image of SHA-256 digest 0e6376304a4316bffed9623510f220e728ef4485ff15af18d591aff9d191d3e4, and this one has 5cf438b45e2de655b2bb30c9bb36f8686ade44997f15ce3ee2917d1e74b35772: to begin anew remove disk and output; to go on with the program of the disk leave --image out\nckrt: ImageDiffers\n";
+
+const ELF_IMAGE: &str =
+    "the image making_g.img: it is an ELF file: guest/image, or objcopy -O binary, makes an image of it\nckrt: File\n";
+
+/// A disk is driven with its own image alone, and an image that is none isn't compared.
+const OTHER_IMAGES: &[Step] = &[
+    Write("making_d.img", &IMAGE),
+    Write("making_e.img", &OF_B),
+    Write("making_f.img", &LONGER),
+    Write("making_g.img", b"\x7fELF"),
+    Ends(
+        "drive making_d.disk --image making_d.img --pages 16 --journal 4096",
+        "A",
+        "ended: exit 0\n",
+        0,
+    ),
+    Fails("drive making_d.disk --image making_e.img", ANOTHER),
+    Fails("drive making_d.disk --image making_f.img", ONE_MORE),
+    Fails(
+        "drive making_d.disk --image making_e.img --pages 17",
+        ANOTHER,
+    ),
+    Fails("drive making_d.disk --image making_g.img", ELF_IMAGE),
+    Ends(
+        "drive making_d.disk --image making_d.img --from 1",
+        "",
+        "ended: exit 0\n",
+        0,
+    ),
+    Remove("making_d.disk"),
+    Remove("making_d.img"),
+    Remove("making_e.img"),
+    Remove("making_f.img"),
+    Remove("making_g.img"),
+];
+
+#[test]
+fn a_disk_is_driven_with_its_own_image(rt: HostRuntime) {
+    play(&rt, OTHER_IMAGES);
 }
 
 const MAKE_B: &str =

@@ -252,7 +252,7 @@ const REASONS_OF_FILES: &[Unusable] = &[
     ),
     (
         FileFault::NotADisk,
-        "the disk d: it is no disk, and is unchanged; move it away, or give another path\nckrt: File\n",
+        "the disk d: it is no disk, and is unchanged; move it away, or give another path\nckrt: NotADisk\n",
     ),
     (
         FileFault::NotInMaking,
@@ -338,7 +338,7 @@ const DISKS: &[Told] = &[
     (
         "run d",
         JobFault::Recover(RecoverFault::NotFormatted),
-        "the disk d: `ckrt format` didn't make it, or was stopped meanwhile: look at its path, or give that format again (docs/OPERATING.md)\nckrt: NotFormatted\n",
+        "the disk d: it is no disk of ckrt, or its making was stopped: look at its path (docs/OPERATING.md)\nckrt: NotFormatted\n",
     ),
     (
         "run d",
@@ -387,7 +387,7 @@ const SHOWN: &[Told] = &[
     (
         "inspect d",
         JobFault::Inspect(InspectFault::NotFormatted),
-        "the disk d: `ckrt format` didn't make it, or was stopped meanwhile: look at its path, or give that format again (docs/OPERATING.md)\nckrt: NotFormatted\n",
+        "the disk d: it is no disk of ckrt, or its making was stopped: look at its path (docs/OPERATING.md)\nckrt: NotFormatted\n",
     ),
     (
         "inspect d",

@@ -26,13 +26,15 @@ const COUNTS: [u8; 20] = [
 const NOT_FORMATTED: Result<(u64, u64), RecoverFault> = Err(RecoverFault::NotFormatted);
 
 /// Changes of a disk that was just formatted.
-const CHANGES: [Row; 26] = [
+const CHANGES: [Row; 28] = [
     (&[], Ok((0, 1))),
     // The superblock.
     (&[(0, &[0])], NOT_FORMATTED),
     (&[(8, &[0x44])], NOT_FORMATTED),
     (&[(8, &[0x44]), (16, &[9])], NOT_FORMATTED),
     (&[(16, &[9])], UNKNOWN),
+    (&[(16, &[2])], UNKNOWN),
+    (&[(16, &[1])], Ok((0, 1))),
     (&[(16, &[9]), (20, &[15])], UNKNOWN),
     (&[(20, &[15])], DAMAGED),
     (&[(24, &[9])], DAMAGED),

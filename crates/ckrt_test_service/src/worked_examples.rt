@@ -101,7 +101,8 @@ fn a_guest_that_waits_for_input_is_served_and_listed(rt: HostRuntime) {
         b"place 0 1\nrun 0 9\ncommit\nquit\n",
         b"ok 1 placed\nok 2 ran 2 off\nack 2\n",
         b"events 2\nclock 0\nstatus running\nhart 0 idle\n\
-thread 1 joinable blocked pc 00001008 enabled deferred none handlers 0\nwait 1 input\n",
+thread 1 joinable blocked pc 00001008 enabled deferred none handlers 0\nwait 1 input\n\
+program 3753ecff6994dd6becfc7c7ffbb5951f88d3166aca2625ee5d18d9d9aedac204 16\n",
     );
 }
 
@@ -131,6 +132,7 @@ fn a_guest_that_joins_is_served_and_listed(rt: HostRuntime) {
         b"ok 1 placed\nok 2 ran 8 off\nack 2\n",
         b"events 2\nclock 0\nstatus running\nhart 0 idle\n\
 thread 1 joinable blocked pc 00001020 enabled deferred none handlers 0\n\
-thread 2 joinable ready pc 00001028 enabled deferred none handlers 0\nwait 1 join 2\n",
+thread 2 joinable ready pc 00001028 enabled deferred none handlers 0\nwait 1 join 2\n\
+program ec0875cb8d67df690fb828e738d951cb8e4a3af88aa0e36633997be5311dc530 52\n",
     );
 }

@@ -1,6 +1,6 @@
 //! The inspector over disks: whole, earlier and with code, damaged and missing, and with reads and writes that fail.
 //!
-//! The batches and the listings were written down from the formats.
+//! The batches and the listings were written down from the formats, and the digests are those of `sha256sum`.
 
 use crate::expect::{
     copied, expect_bytes, expect_eq, expect_eq_at, filled, image_of, lay, memory_disk,
@@ -48,7 +48,8 @@ const NINE_STEPS: [u8; 11] = [0xa5, 7, 0, 1, 0, 1, 2, 0, 9, 0, 0];
 const MORE_STEPS: [u8; 11] = [0xa5, 7, 0, 1, 0, 1, 2, 0, 99, 0, 0];
 
 const READING: &[u8] = b"events 2\nclock 0\nstatus running\nhart 0 idle\n\
-thread 1 joinable blocked pc 00001008 enabled deferred none handlers 0\nwait 1 input\n";
+thread 1 joinable blocked pc 00001008 enabled deferred none handlers 0\nwait 1 input\n\
+program bd290fac3e7b733d9e7b496de085fc5ebbdf49007e5967e216a3baef9fb040d4 24\n";
 
 /// A disk with a guest, and with these bytes at the beginning of its journal.
 fn disk_bytes<R: Abort + AllocGlobal>(rt: &R, words: &[u32], journal: &[u8]) -> Vec<u8> {
@@ -115,7 +116,8 @@ fn a_guest_that_joins_is_listed(rt: HostRuntime) {
         Shown::default(),
         b"events 2\nclock 0\nstatus running\nhart 0 idle\n\
 thread 1 joinable blocked pc 00001020 enabled deferred none handlers 0\n\
-thread 2 joinable ready pc 00001028 enabled deferred none handlers 0\nwait 1 join 2\n",
+thread 2 joinable ready pc 00001028 enabled deferred none handlers 0\nwait 1 join 2\n\
+program ec0875cb8d67df690fb828e738d951cb8e4a3af88aa0e36633997be5311dc530 52\n",
     );
 }
 
@@ -127,14 +129,16 @@ fn earlier_states_are_listed(rt: HostRuntime) {
         bytes.as_slice(),
         after(0),
         b"events 0\nclock 0\nstatus running\nhart 0 idle\n\
-thread 1 joinable ready pc 00001000 enabled deferred none handlers 0\n",
+thread 1 joinable ready pc 00001000 enabled deferred none handlers 0\n\
+program bd290fac3e7b733d9e7b496de085fc5ebbdf49007e5967e216a3baef9fb040d4 24\n",
     );
     expect_listing(
         &rt,
         bytes.as_slice(),
         after(1),
         b"events 1\nclock 0\nstatus running\nhart 0 1\n\
-thread 1 joinable ready pc 00001000 enabled deferred none handlers 0\n",
+thread 1 joinable ready pc 00001000 enabled deferred none handlers 0\n\
+program bd290fac3e7b733d9e7b496de085fc5ebbdf49007e5967e216a3baef9fb040d4 24\n",
     );
     expect_listing(&rt, bytes.as_slice(), after(2), READING);
     expect_fault(&rt, copied(&rt, &bytes), after(3), InspectFault::Range);
@@ -152,7 +156,8 @@ fn states_before_the_area_are_gone(rt: HostRuntime) {
         bytes.as_slice(),
         after(5),
         b"events 5\nclock 0\nstatus running\nhart 0 idle\n\
-thread 1 joinable ready pc 00001000 enabled deferred none handlers 0\n",
+thread 1 joinable ready pc 00001000 enabled deferred none handlers 0\n\
+program bd290fac3e7b733d9e7b496de085fc5ebbdf49007e5967e216a3baef9fb040d4 24\n",
     );
     expect_fault(&rt, bytes, after(8), InspectFault::Range);
 }
@@ -174,7 +179,8 @@ thread 1 joinable blocked pc 00001008 enabled deferred none handlers 0\n\
 \x20 0000100c 00000073 ecall\n\
 \x20 00001010 ff1ff06f jal x0, -16\n\
 \x20 00001014 ffffffff illegal\n\
-wait 1 input\n",
+wait 1 input\n\
+program bd290fac3e7b733d9e7b496de085fc5ebbdf49007e5967e216a3baef9fb040d4 24\n",
     );
 }
 

@@ -1,15 +1,34 @@
-use Rattle.std.proofs.Common.{rules, ◌≡◌, ◌+◌, ap, subst, inr}
+use Rattle.std.proofs.Common.{rules, ◌≡◌, ◌+◌, ap, subst, inl, inr}
 use Rattle.std.specs.Option.{option_map}
 use Rattle.ckrt_checkpoint.specs.Layout.{size_needed}
 use Rattle.ckrt_cli_words.specs.Jobs.{driving_of}
 use Rattle.ckrt_cli_disk.specs.Feeding.{made_size}
 use Rattle.ckrt_cli_disk.specs.Missing.{MakesMissing}
-use Rattle.ckrt_cli_files.specs.Openings.{refused, with_disk}
+use Rattle.ckrt_cli_disk.specs.Programs.{Compares}
+use Rattle.ckrt_cli_files.specs.Openings.{opened, refused, with_disk}
 use Rattle.ckrt_cli_faults.specs.Ranges.{config_for}
 use Rattle.ckrt_cli_files.specs.declared.file.FileFault.{FileFault}
 use Rattle.ckrt_cli_files.specs.declared.file.FileFault.TheVariants.{NotFound}
-use Rattle.ckrt_cli_disk.proofs.MissingLemmas.{makes_weaker}
+use Rattle.ckrt_cli_disk.proofs.MissingLemmas.{compares_same, makes_weaker}
 use Rattle.ckrt_cli_disk.proofs.missing.find_disk.Goals as goal
+
+-- a disk had the path, and what is known of images is what was known before
+pub returns-in-Ok-clause-finds : goal.returns-in-Ok-clause-finds
+returns-in-Ok-clause-finds g c =
+    let d = g.D.Disk in
+    let images = g.S.Sources.image_bytes c.args.sources.now in
+    let path = c.args.job.now.disk.now in
+    let image = (driving_of c.args.job.now).image in
+    let old = g.S.Closes.openings c.args.sources.now in
+    let asked = g.S.Closes.openings c.open_disk.new.self in
+    let new = g.S.Closes.openings c.compared.new.sources in
+    let opens : asked ≡ with_disk old (opened path) = search rules in
+    let compares = compares_same d images (g.S.Sources.image_bytes c.open_disk.new.self) image c.in-Ok.disk asked new c.compared.result c.in-Ok.ensures.same.images c.compared.ensures.compares in
+    inl (record {
+      start = c.in-Ok.disk;
+      is_opened = c.in-Ok.ensures.disk;
+      compares = subst (λ o. Compares d images image c.in-Ok.disk o new c.compared.result) opens compares;
+    })
 
 -- nothing had the path, and what is known of images and disks is no more than before
 pub returns-in-Some-clause-finds : goal.returns-in-Some-clause-finds

@@ -10,7 +10,7 @@ use Rattle.ckrt_commands.proofs.ByteLemmas.{same_bytes}
 use Rattle.ckrt_commands.proofs.many.lives.Goals as goal
 
 pub loop-life-init : goal.loop-life-init
-loop-life-init c = (c.in_ok-left.left.items, c.in_ok-left.ensures.formatted, rw c.new-reports.ensures.items (so_far_start (formatted_program c.args.config c.args.image.now) c.in_ok-left.left.items c.in_ok-left.ensures.formatted))
+loop-life-init c = (c.in_ok-left.left.items, c.in_ok-left.ensures.formatted.recovers, rw c.new-reports.ensures.items (so_far_start (formatted_program c.args.config c.args.image.now) c.in_ok-left.left.items c.in_ok-left.ensures.formatted.recovers))
 
 pub loop-life-preserved : goal.loop-life-preserved
 loop-life-preserved c =

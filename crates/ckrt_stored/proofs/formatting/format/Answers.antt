@@ -24,8 +24,8 @@ returns-in_err-write_synced-clause-any_moment g c = λ honest.
     let was : d.is_honest c.is_formatted.new.disk = c.write_behind_gate.ensures.within.same.honest behind in
     let closed : is_open (d.content c.is_formatted.new.disk) ≡ false = ap is_open (c.in_ok-is_formatted.ensures.content was) ∙ sym (c.in_ok-is_formatted.ensures.exact was) ∙ c.if-branch.false in
     let room : size_needed c.args.config ≤ length (d.content c.write_behind_gate.new.disk) = omega (arith, c.in_ok-check.ensures.room, c.size.ensures, c.is_formatted.ensures.within.same.size, c.write_behind_gate.ensures.within.same.size, g.met.D.Disk.whole c.write_behind_gate.new.disk behind) in
-    let fresh : IsFresh c.args.config (fresh_memory c.args.config c.args.image.now) (d.content c.write_behind_gate.new.disk) =
-    subst (λ (l : List ℕ). IsFresh c.args.config l (d.content c.write_behind_gate.new.disk)) (c.deref.ensures.value ∙ c.in_ok-memory.ensures.bytes) (c.in_ok-write_behind_gate.ensures.written behind) in
+    let fresh : IsFresh c.args.config c.args.image.now (fresh_memory c.args.config c.args.image.now) (d.content c.write_behind_gate.new.disk) =
+    subst (λ (l : List ℕ). IsFresh c.args.config c.args.image.now l (d.content c.write_behind_gate.new.disk)) (c.deref.ensures.value ∙ c.in_ok-memory.ensures.bytes) (c.in_ok-write_behind_gate.ensures.written behind) in
     in_last_write d c.args.config c.args.image.now c.args.disk.now c.is_formatted.new.disk c.write_behind_gate.new.disk c.write_synced.new.disk true behind honest c.in_ok-check.ensures.valid c.in_ok-check.ensures.image room
     (in_look d c.args.config c.args.image.now c.args.disk.now c.is_formatted.new.disk false was c.in_ok-is_formatted.ensures.within)
     closed (c.in_ok-is_formatted.ensures.nothing_pending was) c.in_ok-write_behind_gate.ensures.within fresh (c.in_ok-write_behind_gate.ensures.nothing_pending behind) c.in_err-write_synced.ensures.within
@@ -37,8 +37,8 @@ returns-clause-any_moment g c = λ honest.
     let was : d.is_honest c.is_formatted.new.disk = c.write_behind_gate.ensures.within.same.honest behind in
     let closed : is_open (d.content c.is_formatted.new.disk) ≡ false = ap is_open (c.in_ok-is_formatted.ensures.content was) ∙ sym (c.in_ok-is_formatted.ensures.exact was) ∙ c.if-branch.false in
     let room : size_needed c.args.config ≤ length (d.content c.write_behind_gate.new.disk) = omega (arith, c.in_ok-check.ensures.room, c.size.ensures, c.is_formatted.ensures.within.same.size, c.write_behind_gate.ensures.within.same.size, g.met.D.Disk.whole c.write_behind_gate.new.disk behind) in
-    let fresh : IsFresh c.args.config (fresh_memory c.args.config c.args.image.now) (d.content c.write_behind_gate.new.disk) =
-    subst (λ (l : List ℕ). IsFresh c.args.config l (d.content c.write_behind_gate.new.disk)) (c.deref.ensures.value ∙ c.in_ok-memory.ensures.bytes) (c.in_ok-write_behind_gate.ensures.written behind) in
+    let fresh : IsFresh c.args.config c.args.image.now (fresh_memory c.args.config c.args.image.now) (d.content c.write_behind_gate.new.disk) =
+    subst (λ (l : List ℕ). IsFresh c.args.config c.args.image.now l (d.content c.write_behind_gate.new.disk)) (c.deref.ensures.value ∙ c.in_ok-memory.ensures.bytes) (c.in_ok-write_behind_gate.ensures.written behind) in
     in_last_write d c.args.config c.args.image.now c.args.disk.now c.is_formatted.new.disk c.write_behind_gate.new.disk c.write_synced.new.disk false behind honest c.in_ok-check.ensures.valid c.in_ok-check.ensures.image room
     (in_look d c.args.config c.args.image.now c.args.disk.now c.is_formatted.new.disk false was c.in_ok-is_formatted.ensures.within)
     closed (c.in_ok-is_formatted.ensures.nothing_pending was) c.in_ok-write_behind_gate.ensures.within fresh (c.in_ok-write_behind_gate.ensures.nothing_pending behind) c.in_ok-write_synced.ensures.within
@@ -50,8 +50,8 @@ returns-clause-made g c = λ honest.
     let was : d.is_honest c.is_formatted.new.disk = c.write_behind_gate.ensures.within.same.honest behind in
     let closed : is_open (d.content c.is_formatted.new.disk) ≡ false = ap is_open (c.in_ok-is_formatted.ensures.content was) ∙ sym (c.in_ok-is_formatted.ensures.exact was) ∙ c.if-branch.false in
     let room : size_needed c.args.config ≤ length (d.content c.write_behind_gate.new.disk) = omega (arith, c.in_ok-check.ensures.room, c.size.ensures, c.is_formatted.ensures.within.same.size, c.write_behind_gate.ensures.within.same.size, g.met.D.Disk.whole c.write_behind_gate.new.disk behind) in
-    let fresh : IsFresh c.args.config (fresh_memory c.args.config c.args.image.now) (d.content c.write_behind_gate.new.disk) =
-    subst (λ (l : List ℕ). IsFresh c.args.config l (d.content c.write_behind_gate.new.disk)) (c.deref.ensures.value ∙ c.in_ok-memory.ensures.bytes) (c.in_ok-write_behind_gate.ensures.written behind) in
+    let fresh : IsFresh c.args.config c.args.image.now (fresh_memory c.args.config c.args.image.now) (d.content c.write_behind_gate.new.disk) =
+    subst (λ (l : List ℕ). IsFresh c.args.config c.args.image.now l (d.content c.write_behind_gate.new.disk)) (c.deref.ensures.value ∙ c.in_ok-memory.ensures.bytes) (c.in_ok-write_behind_gate.ensures.written behind) in
     record {
       was_closed = sym (c.in_ok-is_formatted.ensures.exact was) ∙ c.if-branch.false;
       nothing_pending = c.in_ok-write_synced.ensures.nothing_pending honest;
