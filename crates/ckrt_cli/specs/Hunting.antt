@@ -10,14 +10,14 @@ use Rattle.ckrt_main.specs.declared.fault.ServeFault.TheVariants as serve
 use Rattle.ckrt_memory.specs.declared.MemoryError.{MemoryError}
 use Rattle.ckrt_memory.specs.declared.MemoryError.TheVariants as memory
 use Rattle.ckrt_hunt_schedules.specs.Seeds.{ends_of, seeds_of}
-use Rattle.ckrt_hunt_schedules.specs.Short.{IsFound}
+use Rattle.ckrt_hunt_schedules.specs.Short.{IsChosen}
 use Rattle.ckrt_hunt_schedules.specs.Table.{kept_text, unkept_text}
 use Rattle.ckrt_hunt_schedules.specs.Tallies.{Hunted, hunted_of, numbers_of, plan_in, shape_of}
 use Rattle.ckrt_hunt_schedules.specs.Turns.{bytes_of}
 use Rattle.ckrt_hunt_schedules.specs.declared.plan.Input.{Input}
 use Rattle.ckrt_hunt_schedules.specs.declared.plan.Plan.{Plan}
 use Rattle.ckrt_hunt_schedules.specs.declared.row.Row.{Row}
-use Rattle.ckrt_hunt_schedules.specs.declared.shorten.Found.{Found}
+use Rattle.ckrt_hunt_schedules.specs.declared.shorten.Chosen.{Chosen}
 use Rattle.ckrt_hunt_schedules.specs.declared.table.Asked.{Asked}
 use Rattle.ckrt_hunt_schedules.specs.declared.telling.HuntFault.{HuntFault}
 use Rattle.ckrt_hunt_schedules.specs.declared.telling.HuntFault.TheVariants as hunt
@@ -138,20 +138,21 @@ TellsKept told a b (Ok done) result =
     ((result ≡ Ok tt) × Appends a b told) ⊎ (result ≡ Err (job.Serve serve.Write))
 TellsKept told a b (Err f) result = (result ≡ Err f) × (b ≡ a)
 
--- the plan is that of the seed, where its run is kept as it was drawn
-abbrev pub IsAsDrawn : Hunted → (seed : ℕ) → (as_drawn : Bool) → Found → Type 0
-IsAsDrawn h seed true found = found.plan ≡ plan_in h seed
-IsAsDrawn h seed false found = Unit {0}
+-- it is the seed itself, by its own plan, where its run is kept as it was drawn
+abbrev pub IsAsDrawn : Hunted → (seed : ℕ) → (as_drawn : Bool) → Chosen → Type 0
+IsAsDrawn h seed true chosen = (chosen.seed ≡ seed) × (chosen.found.plan ≡ plan_in h seed)
+IsAsDrawn h seed false chosen = Unit {0}
 
--- the run of the seed was kept, as it was drawn or by the shortest schedule that was found, and that is told
+-- a run was kept that comes to what the seed comes to, as that was drawn or by the shortest schedule that was found, and it is told of which seed
+-- it is
 pub record KeepsFound {D : Type 0} (d : Ghosts D) (sought : Sought D) (path : List ℕ)
     (old new : Reached D) (result : Result (Unit {0}) JobFault) : Type 0 where
-  pub found : Found
-  pub is_found : IsFound sought.hunted sought.seed found
-  pub drawn : IsAsDrawn sought.hunted sought.seed sought.as_drawn found
+  pub chosen : Chosen
+  pub is_chosen : IsChosen sought.hunted sought.seed chosen
+  pub drawn : IsAsDrawn sought.hunted sought.seed sought.as_drawn chosen
   pub kept : Result (Unit {0}) JobFault
-  pub keeps : Keeps d (sought.keeping found.plan path) old.openings new.openings kept
-  pub tells : TellsKept (kept_text sought.seed path found) old.written new.written kept result
+  pub keeps : Keeps d (sought.keeping chosen.found.plan path) old.openings new.openings kept
+  pub tells : TellsKept (kept_text path chosen) old.written new.written kept result
 
 -- THE DISKS OF A FOLDER
 

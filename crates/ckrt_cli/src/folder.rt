@@ -5,7 +5,7 @@ ghost use Rattle.ckrt_hunt_schedules.specs.Table.{unkept_text};
 ghost use Rattle.ckrt_hunt_schedules.specs.Tallies.{hunted_of};
 ghost use Rattle.ckrt_cli.specs.Hunting.{KeepsEach, KeptOneMore, LacksPath, LacksRoom, NamesRow, TellsUnkept, folder_at, is_folder, outcome_path, reached, sought_in};
 
-use crate::found::{KeptAt, keep_run, room_fault_of};
+use crate::found::{KeptAt, SeedsOf, keep_run, room_fault_of};
 use crate::keeping::Kept;
 use ckrt_cli_faults::JobFault;
 use ckrt_cli_files::Sources;
@@ -81,7 +81,11 @@ fn keep_row<'a, I: Read, D: Disk, S: Sources<'a, I, D>, W: Write>(
         × (named.result ≡ result))) }
     ensures same { hunt.new ≡ hunt.old }
 {
-    let seed = at.told.rows[place].first;
+    let row = &at.told.rows[place];
+    let seeds = SeedsOf {
+        first: row.first,
+        later: row.later(),
+    };
     let path = match outcome_path(alloc, at.path, place + 1) {
         Ok(path) => path,
         Err(_) => return Err(JobFault::OutOfMemory),
@@ -92,9 +96,9 @@ fn keep_row<'a, I: Read, D: Disk, S: Sources<'a, I, D>, W: Write>(
         image: at.told.image,
         as_drawn: at.told.as_drawn,
     };
-    match keep_run::<I, D, S, W>(alloc, seed, hunt, tries, &what, sources, writer) {
+    match keep_run::<I, D, S, W>(alloc, &seeds, hunt, tries, &what, sources, writer) {
         Ok(()) => Ok(()),
-        Err(why) => Err(tell_unkept(writer, seed, path, why)),
+        Err(why) => Err(tell_unkept(writer, seeds.first, path, why)),
     }
 }
 

@@ -21,6 +21,7 @@ use Rattle.ckrt_hunt_schedules.specs.declared.outcome.Outcome.TheVariants as out
 use Rattle.ckrt_hunt_schedules.specs.declared.outcome.Waiting.{Waiting}
 use Rattle.ckrt_hunt_schedules.specs.declared.row.Row.{Row}
 use Rattle.ckrt_hunt_schedules.specs.declared.shape.Shape.{Shape}
+use Rattle.ckrt_hunt_schedules.specs.declared.shorten.Chosen.{Chosen}
 use Rattle.ckrt_hunt_schedules.specs.declared.shorten.Found.{Found}
 use Rattle.ckrt_hunt_schedules.specs.declared.table.Asked.{Asked}
 use Rattle.ckrt_hunt_schedules.specs.declared.outcomes.Outcomes.{Outcomes}
@@ -162,7 +163,7 @@ done_text a done = table_text (record a { seeds = done.seeds }) done.outcomes
 
 -- A RUN THAT IS KEPT
 --
---     kept: the run of seed 17 on bugs/outcome-2.disk, switches: 4, drawn with 4123
+--     kept: the run of seed 17 on bugs/outcome-2.disk, switches: 4, drawn with 4123, fewest of 10 seeds
 
 -- how many switches it was drawn with, where it was shortened
 abbrev pub drawn_by : {A : Type 0} → (given : Option A) → (drawn : ℕ) → List ℕ
@@ -172,14 +173,21 @@ drawn_by (Some turns) drawn = codes ", drawn with " ++ decimal drawn
 abbrev pub drawn_text : Found → List ℕ
 drawn_text found = drawn_by found.plan.turns found.drawn
 
+-- among the runs of how many seeds it was chosen, where they are several
+abbrev pub fewest_text : (seeds : ℕ) → List ℕ
+fewest_text seeds =
+    if nat_le seeds 1 then [] else codes ", fewest of " ++ decimal seeds ++ codes " seeds"
+
 -- a seed behind a word, and the disk of its run
 abbrev pub placed_text : (word : List ℕ) → (seed : ℕ) → (path : List ℕ) → List ℕ
 placed_text word seed path = word ++ decimal seed ++ codes " on " ++ path
 
-abbrev pub kept_text : (seed : ℕ) → (path : List ℕ) → Found → List ℕ
-kept_text seed path found =
-    placed_text (codes "kept: the run of seed ") seed path ++ (codes ", switches: " ++ decimal found.switches)
-    ++ drawn_text found
+abbrev pub kept_text : (path : List ℕ) → Chosen → List ℕ
+kept_text path chosen =
+    placed_text (codes "kept: the run of seed ") chosen.seed path
+    ++ (codes ", switches: " ++ decimal chosen.found.switches)
+    ++ drawn_text chosen.found
+    ++ fewest_text chosen.seeds
     ++ 10 ∷ []
 
 -- one that isn't

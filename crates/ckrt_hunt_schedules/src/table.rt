@@ -1,14 +1,14 @@
 //! What a hunt came to, as a table.
 ghost use Rattle.std.specs.Prelude.{◌≡◌, ◌+◌, ◌≤◌, ◌++◌, ◌∷◌, [], codes, decimal, length, OnOk};
 ghost use Rattle.std.specs.Io.KnownBytes.{Appends};
-ghost use Rattle.ckrt_hunt_schedules.specs.Table.{command_line, drawn_text, head_text, ignored_word, input_text, kept_text, outcome_line, others_line, placed_text, races_word, row_text, rows_text, runs_text, said_line, seed_text, shape_text, table_text, unkept_text};
+ghost use Rattle.ckrt_hunt_schedules.specs.Table.{command_line, drawn_text, fewest_text, head_text, ignored_word, input_text, kept_text, outcome_line, others_line, placed_text, races_word, row_text, rows_text, runs_text, said_line, seed_text, shape_text, table_text, unkept_text};
 
 use crate::outcomes::Outcomes;
 use crate::row::Row;
 use crate::saying::write_said;
 use crate::seeds::Seeds;
 use crate::shape::Shape;
-use crate::shorten::Found;
+use crate::shorten::{Chosen, Found};
 use crate::texts::{write_counted, write_digest, write_outcome};
 use std::io::{Result, Write};
 
@@ -249,14 +249,38 @@ pub fn write_unkept<W: Write>(out: &mut W, seed: u64, path: &str) -> Result<()>
     out.write_all(b"\n")
 }
 
-/// Writes which seed's run is kept, on the disk of which path, how many switches it has, and how many it was drawn with: a
-/// switch is a thread that runs after another one. It takes no memory.
-pub fn write_kept<W: Write>(out: &mut W, seed: u64, path: &str, found: &Found<'_>) -> Result<()>
+/// Among the runs of how many seeds a run was chosen, where they are several.
+#[tactic(auto, using(crate::proofs::AppendLemmas::appends_none))]
+fn write_fewest<W: Write>(out: &mut W, seeds: u32) -> Result<()>
     ensures { OnOk result
-        (Appends (W.contents out.old) (W.contents out.new) (kept_text seed path.now found.now)) }
+        (Appends (W.contents out.old) (W.contents out.new) (fewest_text seeds)) }
 {
-    write_placed(out, b"kept: the run of seed ", seed, path)?;
-    write_switches(out, b", switches: ", found.switches)?;
-    write_drawn(out, found)?;
+    if seeds <= 1 {
+        Ok(())
+    } else {
+        write_many_seeds(out, seeds)
+    }
+}
+
+/// The same of several.
+fn write_many_seeds<W: Write>(out: &mut W, seeds: u32) -> Result<()>
+    ensures { OnOk result
+        (Appends (W.contents out.old) (W.contents out.new)
+        (codes ", fewest of " ++ decimal seeds ++ codes " seeds")) }
+{
+    write_switches(out, b", fewest of ", seeds)?;
+    out.write_all(b" seeds")
+}
+
+/// Writes which seed's run is kept, on the disk of which path, how many switches it has, how many it was drawn with, and of how many seeds
+/// that is the fewest: a switch is a thread that runs after another one. It takes no memory.
+pub fn write_kept<W: Write>(out: &mut W, path: &str, chosen: &Chosen<'_>) -> Result<()>
+    ensures { OnOk result
+        (Appends (W.contents out.old) (W.contents out.new) (kept_text path.now chosen.now)) }
+{
+    write_placed(out, b"kept: the run of seed ", chosen.seed, path)?;
+    write_switches(out, b", switches: ", chosen.found.switches)?;
+    write_drawn(out, &chosen.found)?;
+    write_fewest(out, chosen.seeds)?;
     out.write_all(b"\n")
 }
