@@ -20,8 +20,8 @@ use ckrt_recovery::{Config, FormatFault};
 use std::alloc::Global;
 use std::io::{Read, Write};
 
-/// A hunt that was told: of which image, with which input, the sizes of disks for its runs, the first seed, the outcomes, and whether
-/// runs are kept as they were drawn.
+/// A hunt that was told: of which image, with which input, the sizes of disks for its runs, the first seed, the outcomes, whether
+/// runs are kept as they were drawn, and whether each outcome has lines.
 #[derive(Clone, Copy)]
 pub(crate) struct ToldHunt<'b, 'i> {
     pub(crate) config: Config,
@@ -31,6 +31,7 @@ pub(crate) struct ToldHunt<'b, 'i> {
     pub(crate) first: u64,
     pub(crate) rows: &'b [Row],
     pub(crate) as_drawn: bool,
+    pub(crate) all_rows: bool,
 }
 
 /// A hunt that was told, and the path of the disk or of the folder where runs of it are kept.
@@ -59,11 +60,7 @@ pub(crate) fn room_fault_of(fault: MemoryError) -> JobFault
 
 /// Says which run was kept, and flushes that.
 #[tactic(auto, using(crate::proofs::AppendLemmas::appends_kept))]
-fn tell_kept<W: Write>(
-    writer: &mut W,
-    path: &str,
-    chosen: &Chosen<'_>,
-) -> Result<(), JobFault>
+fn tell_kept<W: Write>(writer: &mut W, path: &str, chosen: &Chosen<'_>) -> Result<(), JobFault>
     ensures { TellsKept (kept_text path.now chosen.now)
         (W.contents writer.old) (W.contents writer.new) (Ok tt) result }
 {

@@ -11,6 +11,7 @@ use ckrt_hunt_schedules::{
     Outcomes, Seeds, Shape, Tally, Told, Verdict, Waiting, hunt_and_tell, write_table,
 };
 use ckrt_rv32i::Cause;
+use std::alloc::Global;
 use std::process::Abort;
 
 /// Texts, and the ends of the ranges that they name.
@@ -188,6 +189,7 @@ fn asked_for(first: u64, last: u64) -> Asked<'static>
         may_end: false,
         input: None,
         races: false,
+        all_rows: false,
     }
 }
 
@@ -364,11 +366,13 @@ struct Patience {
 impl HuntOnlooker for Patience {
     ghost Answers = { λ _ _. Unit {0} };
 
-    fn begin_hunt(&mut self, _watch: HuntWatch) {}
+    fn begin_hunt(&mut self, _alloc: Global, _watch: HuntWatch<'_>) {}
 
     fn has_time(&mut self, seed: u64, _tally: &Tally) -> bool {
         seed < self.last
     }
+
+    fn end_hunt(&mut self, _seeds: Seeds, _outcomes: &Outcomes) {}
 }
 
 /// What is printed of a hunt of the seeds 5 to 14, by an onlooker who has time up to seed 7.
