@@ -277,20 +277,23 @@ impl Tries {
         ensures chosen { IsChosen hunt.old first result }
         ensures same { hunt.new ≡ hunt.old }
     {
-        if come_to_one(hunt, first, later) {
-            let other = found_by(hunt, later, &self.other);
-            if other.switches < own.switches {
-                return Chosen {
-                    seed: later,
-                    found: other,
-                    seeds: self.seeds,
-                };
-            }
-        }
-        Chosen {
+        let kept = Chosen {
             seed: first,
             found: own,
             seeds: self.seeds,
+        };
+        if !come_to_one(hunt, first, later) {
+            return kept;
+        }
+        let found = found_by(hunt, later, &self.other);
+        if found.switches < own.switches {
+            Chosen {
+                seed: later,
+                found,
+                seeds: self.seeds,
+            }
+        } else {
+            kept
         }
     }
 
