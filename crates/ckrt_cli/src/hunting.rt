@@ -184,7 +184,8 @@ fn keep_if_asked<'a, I: Read, D: Disk, S: Sources<'a, I, D>, W: Write>(
         (S.fills sources.old))
         (reached (S.openings sources.old) (W.contents writer.old))
         (reached (S.openings sources.new) (W.contents writer.new)) result
-        (place_of (option_map (λ path. path.now) keep.entry) told.entry.all_rows told.entry.rows.now) }
+        (place_of (option_map (λ path. path.now) keep.entry) told.entry.all_rows
+        told.entry.rows.now) }
 {
     let Some(path) = keep else {
         return Ok(());
