@@ -121,10 +121,10 @@ impl Replaced {
     /// them.
     pub(crate) fn expect_free<R: Files<File = File>>(&self, rt: &R) -> Result<(), FileFault> {
         for other in self.others.iter() {
-            if is_same_file(rt, self.path.as_str(), other.path.as_str()) {
+            if is_one_path(rt, self.path.as_str(), other.path.as_str()) {
                 return Err(other.fault);
             }
-            if is_same_file(rt, self.beside.as_str(), other.path.as_str()) {
+            if is_one_path(rt, self.beside.as_str(), other.path.as_str()) {
                 return Err(self.content.not_a_new_one());
             }
         }
@@ -203,6 +203,11 @@ enum Found {
     Such,
     /// Anything else: also a link, whatever it leads to.
     Other,
+}
+
+/// Whether two paths are one, or lead to one file. A disk that is to be made isn't there yet.
+fn is_one_path<R: Files<File = File>>(rt: &R, path: &str, other: &str) -> bool {
+    path == other || is_same_file(rt, path, other)
 }
 
 /// That a file isn't there is no fault.

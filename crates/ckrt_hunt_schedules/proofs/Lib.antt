@@ -13,3 +13,4 @@ mod NumberLemmas
 mod CircleLemmas
 pub mod TimeLemmas
 mod ShownLemmas
+mod RowLemmas

@@ -16,4 +16,4 @@ loop-place-preserved c =
     let n = c.loop-place.place in
     let r = c.index-rows-place.result in
     let there : slice_get rows n ≡ Some r = slice_get-get_or rows n r c.loop-place-test.true ∙ ap Some (sym c.index-rows-place.is) in
-    c.saturating_add.ensures ∙ ap₂ plus c.loop-place.invariant c.amount_at.ensures ∙ sym (total_more c.args.measure rows n (n + 1) r (omega arith) there)
+    c.saturating_add-total.ensures ∙ ap₂ plus c.loop-place.invariant c.amount_at.ensures ∙ sym (total_more c.args.measure rows n (n + 1) r (omega arith) there)
