@@ -56,6 +56,7 @@ impl StatusFile {
         if push_metrics(&mut self.text, readings, tables).is_err() {
             return Err(FileFault::OutOfMemory);
         }
-        self.file.replace(rt, self.text.as_slice())
+        self.file.replace(rt, self.text.as_slice())?;
+        Ok(())
     }
 }

@@ -13,4 +13,3 @@ mod NumberLemmas
 mod CircleLemmas
 pub mod TimeLemmas
 mod ShownLemmas
-mod RowLemmas

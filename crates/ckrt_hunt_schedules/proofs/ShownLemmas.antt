@@ -1,5 +1,5 @@
 -- What rows count together, one row after another.
-use Rattle.std.proofs.Common.{◌≡◌, ℕ, suc, List, Some, ap, subst, sym, refl}
+use Rattle.std.proofs.Common.{◌≡◌, ℕ, suc, List, Some, refl}
 use Rattle.std.specs.Prelude.{slice_get}
 use Rattle.ckrt_hunt_schedules.specs.Shown.{amount_at, total_of}
 use Rattle.ckrt_hunt_schedules.specs.Tallies.{plus}

@@ -1,5 +1,5 @@
 -- Which rows of a table have lines (this project's choice): of more than three outputs of `exit 0` those of the three commonest.
-use Rattle.std.specs.Prelude.{ℕ, zero, suc, ◌==◌, ◌||◌, ◌&&◌, nat_le, nat_lt, Bool, true, false, if◌then◌else◌, List, length, slice_get, Option, Some, None}
+use Rattle.std.specs.Prelude.{ℕ, zero, suc, ◌==◌, ◌||◌, ◌&&◌, nat_lt, Bool, true, false, if◌then◌else◌, List, length, slice_get, Option, Some, None}
 use Rattle.ckrt_hunt_schedules.specs.Kinds.{kind_of}
 use Rattle.ckrt_hunt_schedules.specs.Tallies.{plus}
 use Rattle.ckrt_hunt_schedules.specs.declared.kind.Kind.{Kind}

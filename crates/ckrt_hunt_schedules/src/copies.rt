@@ -1,5 +1,5 @@
 //! Copies of outcomes, into room that is there.
-ghost use Rattle.std.specs.Prelude.{◌≡◌, ◌≤◌, ◌+◌, ◌++◌, [], option_map, vec_capacity, vec_len};
+ghost use Rattle.std.specs.Prelude.{◌≡◌, ◌≤◌, ◌+◌, ◌++◌, [], vec_capacity, vec_len};
 ghost use Rattle.ckrt_hunt_schedules.specs.Tallies.{rows_of};
 ghost use Rattle.ckrt_hunt_schedules.specs.declared.group.TheConstants.{GROUP_ROWS};
 ghost use Rattle.ckrt_hunt_schedules.specs.declared.outcomes.TheConstants.{MOST_OUTCOMES};

@@ -1,7 +1,6 @@
-use Rattle.std.proofs.Common.{◌+◌, ◌≡◌, ◌∙◌, Some, ap, ap₂, arith, sym, get_or}
+use Rattle.std.proofs.Common.{◌+◌, ◌≡◌, ◌∙◌, Some, ap, ap₂, arith, sym}
 use Rattle.std.specs.Prelude.{slice_get}
 use Rattle.std.proofs.lemmas.Option.{slice_get-get_or}
-use Rattle.ckrt_hunt_schedules.specs.Shown.{amount_at}
 use Rattle.ckrt_hunt_schedules.specs.Tallies.{plus}
 use Rattle.ckrt_hunt_schedules.proofs.ShownLemmas.{no_total, total_more}
 use Rattle.ckrt_hunt_schedules.proofs.shown.total_of.Goals as goal
