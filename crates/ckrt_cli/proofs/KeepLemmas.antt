@@ -10,7 +10,7 @@ use Rattle.ckrt_hunt_schedules.specs.Tallies.{Hunted, hunted_of}
 use Rattle.ckrt_hunt_schedules.specs.declared.plan.Input.{Input}
 use Rattle.ckrt_hunt_schedules.specs.declared.table.Asked.{Asked}
 use Rattle.ckrt_hunt_schedules.specs.declared.verdict.Verdict.{Verdict}
-use Rattle.ckrt_cli.specs.Hunting.{AreKept, EndsHunt, Folder, Hunter, KeepsAt, KeepsEach, KeepsFound, KeptNext, LacksPath, NamesRow, Place, Reached, StopsAtRow, config_of, in_folder, is_kept, nowhere, on_disk, place_of, sought_by, wanted_of}
+use Rattle.ckrt_cli.specs.Hunting.{AreKept, EndsHunt, Folder, Hunter, KeepsAt, KeepsEach, KeepsFound, KeptIfShown, KeptNext, KeptOneMore, LacksPath, NamesRow, Place, Reached, StopsAtRow, config_of, in_folder, is_kept, nowhere, on_disk, place_of, sought_by, wanted_of}
 use Rattle.ckrt_cli.specs.Keeping.{Keeping, Keeps, KeepsOn}
 
 -- all disks that one may have the other may have
@@ -52,7 +52,7 @@ module _ {D : Type 0} (d : Ghosts D) (h : Hunted) (seed : ℕ) (as_drawn : Bool)
 
   -- the next outcome: nothing is said of which disks may be made for it
   next_same : (shown : Bool) (folder : Folder) (n : ℕ) (Was Is : Reached D → Type 0) (new : Reached D) → ((r : Reached D) → Was r → Is r)
-      → KeptNext shown d (sought_by h seed as_drawn config guest Fills) folder n Was new → KeptNext shown d (sought_by h seed as_drawn config guest More) folder n Is new
+      → KeptNext shown (λ W a. KeptOneMore d (sought_by h seed as_drawn config guest Fills) folder n W a) Was new → KeptNext shown (λ W a. KeptOneMore d (sought_by h seed as_drawn config guest More) folder n W a) Is new
   next_same true folder n Was Is new more k = record {
     before = k.before;
     was_so = more k.before k.was_so;
@@ -69,7 +69,7 @@ module _ {D : Type 0} (d : Ghosts D) (h : Hunted) (seed : ℕ) (as_drawn : Bool)
 
   -- one outcome more, which was kept with other disks
   pub kept_on : (folder : Folder) (n m : ℕ) (old mid new : Reached D) → m ≡ suc n → AreKept d (sought_by h seed as_drawn config guest More) folder n old mid
-      → KeptNext (is_kept folder n) d (sought_by h seed as_drawn config guest Fills) folder n (λ r. r ≡ mid) new → AreKept d (sought_by h seed as_drawn config guest More) folder m old new
+      → KeptIfShown d (sought_by h seed as_drawn config guest Fills) folder n (λ r. r ≡ mid) new → AreKept d (sought_by h seed as_drawn config guest More) folder m old new
   kept_on folder n m old mid new e a k =
       let on : AreKept d (sought_by h seed as_drawn config guest More) folder (suc n) old new = next_same (is_kept folder n) folder n (λ r. r ≡ mid) (AreKept d (sought_by h seed as_drawn config guest More) folder n old) new (λ r is. subst (λ x. AreKept d (sought_by h seed as_drawn config guest More) folder n old x) (sym is) a) k in
       subst (λ j. AreKept d (sought_by h seed as_drawn config guest More) folder j old new) (sym e) on

@@ -192,18 +192,25 @@ pub record KeptOneMore {D : Type 0} (d : Ghosts D) (sought : Sought D) (folder :
   pub is_row : slice_get folder.rows place ≡ Some row
   pub keeps : KeepsFound d (sought_of sought row) (outcome_path folder.path (place + 1)) before new (Ok tt)
 
--- the same of an outcome that has lines
-abbrev pub KeptNext : {D : Type 0} → (is_kept : Bool) → Ghosts D → Sought D → Folder → (place : ℕ)
+-- one more was kept, or nothing
+abbrev pub KeptNext : {D : Type 0} → (is_kept : Bool)
+    → (OneMore : (Reached D → Type 0) → Reached D → Type 0) → (WasSo : Reached D → Type 0)
+    → (new : Reached D) → Type 0
+KeptNext true OneMore WasSo new = OneMore WasSo new
+KeptNext false OneMore WasSo new = WasSo new
+
+-- the outcome at this place was kept, if it has lines
+abbrev pub KeptIfShown : {D : Type 0} → Ghosts D → Sought D → Folder → (place : ℕ)
     → (WasSo : Reached D → Type 0) → (new : Reached D) → Type 0
-KeptNext true d sought folder place WasSo new = KeptOneMore d sought folder place WasSo new
-KeptNext false d sought folder place WasSo new = WasSo new
+KeptIfShown d sought folder place WasSo new =
+    KeptNext (is_kept folder place) (λ Was after. KeptOneMore d sought folder place Was after) WasSo new
 
 -- the runs of those of the first n outcomes that have lines were kept, in their order
 abbrev pub AreKept : {D : Type 0} → Ghosts D → Sought D → Folder → (n : ℕ) → (old new : Reached D)
     → Type 0
 AreKept d sought folder zero old new = new ≡ old
 AreKept d sought folder (suc n) old new =
-    KeptNext (is_kept folder n) d sought folder n (AreKept d sought folder n old) new
+    KeptIfShown d sought folder n (AreKept d sought folder n old) new
 
 -- a run that wasn't kept is named, or the writer failed
 abbrev pub TellsUnkept : (told : List ℕ) → JobFault → (a b : Option (List ℕ))

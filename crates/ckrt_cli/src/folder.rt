@@ -3,7 +3,7 @@ ghost use Rattle.std.specs.Prelude.{◌≡◌, ◌<◌, ◌⊎◌, Err, IfOk, On
 ghost use Rattle.ckrt_checkpoint.specs.Layout.{is_valid};
 ghost use Rattle.ckrt_hunt_schedules.specs.Table.{unkept_text};
 ghost use Rattle.ckrt_hunt_schedules.specs.Tallies.{hunted_of};
-ghost use Rattle.ckrt_cli.specs.Hunting.{KeepsEach, KeptNext, KeptOneMore, LacksPath, LacksRoom, NamesRow, TellsUnkept, folder_at, is_folder, is_kept, outcome_path, reached, sought_in};
+ghost use Rattle.ckrt_cli.specs.Hunting.{KeepsEach, KeptIfShown, KeptOneMore, LacksPath, LacksRoom, NamesRow, TellsUnkept, folder_at, is_folder, outcome_path, reached, sought_in};
 
 use crate::found::{KeptAt, SeedsOf, keep_run, room_fault_of};
 use crate::keeping::Kept;
@@ -114,7 +114,7 @@ fn keep_if_shown<'a, I: Read, D: Disk, S: Sources<'a, I, D>, W: Write>(
 ) -> Result<(), JobFault>
     requires config { is_valid at.now.told.config ≡ true }
     requires place { place < length at.now.told.rows.now }
-    ensures kept { OnOk result (KeptNext (is_kept (folder_at at.now) place) D.Disk
+    ensures kept { OnOk result (KeptIfShown D.Disk
         (sought_in hunt.old at.now.told (S.fills sources.old)) (folder_at at.now) place
         (λ r. r ≡ reached (S.openings sources.old) (W.contents writer.old))
         (reached (S.openings sources.new) (W.contents writer.new))) }

@@ -1,5 +1,5 @@
 -- The numbers of the words: what is given where they have none, and which of them are in their ranges.
-use Rattle.std.specs.Prelude.{◌&&◌, ℕ, nat_lt, nat_le, Bool, true, false, List, Option, Some, None, unwrap_or}
+use Rattle.std.specs.Prelude.{◌&&◌, ℕ, nat_lt, nat_le, Bool, true, false, List, not, Option, Some, None, unwrap_or}
 use Rattle.ckrt_checkpoint.specs.declared.config.Config.{Config}
 use Rattle.ckrt_record.specs.Slot.{TAKEN_LIMIT}
 use Rattle.ckrt_cli_words.specs.Jobs.{Driving, Hunting}

@@ -1,7 +1,7 @@
 use Rattle.std.proofs.Common.{rules, ◌≡◌, ◌∙◌, ◌⊎◌, ◌+◌, arith, inr, subst, sym, Err}
 use Rattle.ckrt_checkpoint.specs.Layout.{size_needed}
 use Rattle.ckrt_hunt_schedules.specs.Tallies.{Hunted}
-use Rattle.ckrt_cli.specs.Hunting.{KeepsEach, KeptNext, LacksPath, NamesRow, folder_at, is_kept, reached, sought_in}
+use Rattle.ckrt_cli.specs.Hunting.{KeepsEach, KeptIfShown, LacksPath, NamesRow, folder_at, reached, sought_in}
 use Rattle.ckrt_cli.proofs.KeepLemmas.{kept_on, stopped}
 use Rattle.ckrt_cli.proofs.folder.keep_rows.Goals as goal
 
@@ -16,7 +16,7 @@ loop-place-preserved g c =
     let old = reached (g.S.Closes.openings c.args.sources.now) (g.W.Write.contents c.args.writer.now) in
     let mid = reached (g.S.Closes.openings c.loop-place.sources) (g.W.Write.contents c.loop-place.writer) in
     let new = reached (g.S.Closes.openings c.keep_if_shown.new.sources) (g.W.Write.contents c.keep_if_shown.new.writer) in
-    let kept = subst (λ (h : Hunted). KeptNext (is_kept (folder_at at) place) g.D.Disk (sought_in h told fills) (folder_at at) place (λ r. r ≡ mid) new) c.loop-place.invariant.same c.in_ok-keep_if_shown.ensures.kept in
+    let kept = subst (λ (h : Hunted). KeptIfShown g.D.Disk (sought_in h told fills) (folder_at at) place (λ r. r ≡ mid) new) c.loop-place.invariant.same c.in_ok-keep_if_shown.ensures.kept in
     record {
       kept = kept_on g.D.Disk c.args.hunt.now told.first told.as_drawn told.config told.image.now (λ p. fills p (size_needed told.config)) (λ p. first p (size_needed told.config)) (folder_at at) place (place + 1) old mid new (omega arith) c.loop-place.invariant.kept kept;
       same = c.in_ok-keep_if_shown.ensures.same ∙ c.loop-place.invariant.same;
