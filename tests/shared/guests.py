@@ -1,8 +1,10 @@
 """Guests that several tests run, and what they put."""
-from shared.instructions import GETC, PUTC, SLEEP_UNTIL, Program
+from shared.instructions import CREATE, GETC, JOIN, LOCK, PUTC, SLEEP_UNTIL, UNLOCK, Program
 
 MASK = 0xFFFFFFFF
 ALPHABET = b"ABCDEFGHIJKLMNOPQRSTUVWXYZ\n"
+LETTERS = 4  # threads that put a letter each, in any order
+CROWD = 6  # threads whose letters come in more orders than have rows
 
 
 def generator(seed):
@@ -131,4 +133,56 @@ def echoing():
     program.jump("byte")
     program.label("end")
     program.exit()
+    return program.image()
+
+
+def letters(end=Program.exit):
+    """A guest whose threads put a letter each, in any order, and then it comes to an end."""
+    program = Program()
+    for number in range(LETTERS):
+        program.address(10, "letter")
+        program.number(11, ord("a") + number)
+        program.number(12, 0x8000 + 0x1000 * number)
+        program.call(CREATE)
+    for number in range(LETTERS):
+        program.number(10, 2 + number)
+        program.call(JOIN)
+    end(program)
+    program.label("letter")
+    program.call(PUTC)
+    program.returns()
+    return program.image()
+
+
+def crowded():
+    """Threads that put a letter each, in any order, and two of them take two mutexes before, in opposite orders."""
+    program = Program()
+    for number in range(CROWD):
+        program.address(10, "crosses" if number < 2 else "letter")
+        program.number(11, number)
+        program.number(12, 0x8000 + 0x1000 * number)
+        program.call(CREATE)
+    for number in range(CROWD):
+        program.number(10, 2 + number)
+        program.call(JOIN)
+    program.exit()
+    program.label("crosses")  # the mutexes at 2000 and 2004, or these turned round
+    program.addi(13, 10, 0)
+    program.slli(9, 10, 2)
+    program.number(8, 0x2000)
+    program.add(10, 8, 9)
+    program.call(LOCK)
+    program.addi(10, 8, 4)
+    program.sub(10, 10, 9)
+    program.call(LOCK)
+    program.addi(10, 8, 4)
+    program.sub(10, 10, 9)
+    program.call(UNLOCK)
+    program.add(10, 8, 9)
+    program.call(UNLOCK)
+    program.addi(10, 13, 0)
+    program.label("letter")
+    program.addi(10, 10, ord("a"))
+    program.call(PUTC)
+    program.returns()
     return program.image()

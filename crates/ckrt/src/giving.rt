@@ -219,7 +219,7 @@ impl Giving {
         for (before, was_there) in self.there.iter().enumerate() {
             let disk = outcome_path(self.alloc, keep, before.saturating_add(1))?;
             if !was_there && !is_missing(rt, disk.as_str()) {
-                let others = [Some(job.image), job.input, None, None];
+                let others = [Some(job.image), job.input, job.table, None];
                 self.give(rt, disk.as_str(), others)?;
             }
         }

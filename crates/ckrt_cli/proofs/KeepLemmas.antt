@@ -1,5 +1,5 @@
 -- What is kept, with other disks for a path.
-use Rattle.std.proofs.Common.{◌≡◌, ◌⊎◌, ℕ, zero, suc, Bool, List, length, Result, Ok, Err, inl, inr, subst, sym}
+use Rattle.std.proofs.Common.{◌≡◌, ◌⊎◌, ℕ, zero, suc, Bool, true, false, List, length, Result, Ok, Err, inl, inr, subst, sym}
 use Rattle.ckrt_disk.specs.declared.disk.Disk.{Ghosts}
 use Rattle.ckrt_hunt_races.specs.declared.telling.HuntTold.{HuntTold}
 use Rattle.ckrt_hunt_schedules.specs.declared.telling.HuntFault.{HuntFault}
@@ -10,7 +10,7 @@ use Rattle.ckrt_hunt_schedules.specs.Tallies.{Hunted, hunted_of}
 use Rattle.ckrt_hunt_schedules.specs.declared.plan.Input.{Input}
 use Rattle.ckrt_hunt_schedules.specs.declared.table.Asked.{Asked}
 use Rattle.ckrt_hunt_schedules.specs.declared.verdict.Verdict.{Verdict}
-use Rattle.ckrt_cli.specs.Hunting.{AreKept, EndsHunt, Folder, Hunter, KeepsAt, KeepsEach, KeepsFound, KeptOneMore, LacksPath, NamesRow, Place, Reached, StopsAtRow, config_of, in_folder, nowhere, on_disk, place_of, sought_by, wanted_of}
+use Rattle.ckrt_cli.specs.Hunting.{AreKept, EndsHunt, Folder, Hunter, KeepsAt, KeepsEach, KeepsFound, KeptIfShown, KeptNext, KeptOneMore, LacksPath, NamesRow, Place, Reached, StopsAtRow, config_of, in_folder, is_kept, nowhere, on_disk, place_of, sought_by, wanted_of}
 use Rattle.ckrt_cli.specs.Keeping.{Keeping, Keeps, KeepsOn}
 
 -- all disks that one may have the other may have
@@ -42,35 +42,37 @@ module _ {D : Type 0} (d : Ghosts D) (h : Hunted) (seed : ℕ) (as_drawn : Bool)
   pub found_weaker : (path : List ℕ) (old new : Reached D) (result : Result (Unit {0}) JobFault) → ((at : List ℕ) (disk : D) → Fills at disk → More at disk)
       → KeepsFound d (sought_by h seed as_drawn config guest Fills) path old new result → KeepsFound d (sought_by h seed as_drawn config guest More) path old new result
   found_weaker path old new result more k = record {
-    found = k.found;
-    is_found = k.is_found;
+    chosen = k.chosen;
+    is_chosen = k.is_chosen;
     drawn = k.drawn;
     kept = k.kept;
-    keeps = keeps_weaker d ((sought_by h seed as_drawn config guest Fills).keeping k.found.plan path) (More path) old.openings new.openings k.kept (more path) k.keeps;
+    keeps = keeps_weaker d ((sought_by h seed as_drawn config guest Fills).keeping k.chosen.found.plan path) (More path) old.openings new.openings k.kept (more path) k.keeps;
     tells = k.tells;
   }
 
-  -- of the outcomes nothing is said of which disks may be made
-  pub are_same : (folder : Folder) (n : ℕ) (old new : Reached D) → AreKept d (sought_by h seed as_drawn config guest Fills) folder n old new → AreKept d (sought_by h seed as_drawn config guest More) folder n old new
-  are_same folder zero old new k = k
-  are_same folder (suc n) old new k = record {
+  -- the next outcome: nothing is said of which disks may be made for it
+  next_same : (shown : Bool) (folder : Folder) (n : ℕ) (Was Is : Reached D → Type 0) (new : Reached D) → ((r : Reached D) → Was r → Is r)
+      → KeptNext shown (λ W a. KeptOneMore d (sought_by h seed as_drawn config guest Fills) folder n W a) Was new → KeptNext shown (λ W a. KeptOneMore d (sought_by h seed as_drawn config guest More) folder n W a) Is new
+  next_same true folder n Was Is new more k = record {
     before = k.before;
-    was_so = are_same folder n old k.before k.was_so;
+    was_so = more k.before k.was_so;
     row = k.row;
     is_row = k.is_row;
     keeps = k.keeps;
   }
+  next_same false folder n Was Is new more k = more new k
+
+  pub are_same : (folder : Folder) (n : ℕ) (old new : Reached D) → AreKept d (sought_by h seed as_drawn config guest Fills) folder n old new → AreKept d (sought_by h seed as_drawn config guest More) folder n old new
+  are_same folder zero old new k = k
+  are_same folder (suc n) old new k =
+      next_same (is_kept folder n) folder n (AreKept d (sought_by h seed as_drawn config guest Fills) folder n old) (AreKept d (sought_by h seed as_drawn config guest More) folder n old) new (are_same folder n old) k
 
   -- one outcome more, which was kept with other disks
   pub kept_on : (folder : Folder) (n m : ℕ) (old mid new : Reached D) → m ≡ suc n → AreKept d (sought_by h seed as_drawn config guest More) folder n old mid
-      → KeptOneMore d (sought_by h seed as_drawn config guest Fills) folder n (λ r. r ≡ mid) new → AreKept d (sought_by h seed as_drawn config guest More) folder m old new
-  kept_on folder n m old mid new e a k = rw e (record {
-    before = k.before;
-    was_so = subst (λ x. AreKept d (sought_by h seed as_drawn config guest More) folder n old x) (sym k.was_so) a;
-    row = k.row;
-    is_row = k.is_row;
-    keeps = k.keeps;
-  })
+      → KeptIfShown d (sought_by h seed as_drawn config guest Fills) folder n (λ r. r ≡ mid) new → AreKept d (sought_by h seed as_drawn config guest More) folder m old new
+  kept_on folder n m old mid new e a k =
+      let on : AreKept d (sought_by h seed as_drawn config guest More) folder (suc n) old new = next_same (is_kept folder n) folder n (λ r. r ≡ mid) (AreKept d (sought_by h seed as_drawn config guest More) folder n old) new (λ r is. subst (λ x. AreKept d (sought_by h seed as_drawn config guest More) folder n old x) (sym is) a) k in
+      subst (λ j. AreKept d (sought_by h seed as_drawn config guest More) folder j old new) (sym e) on
 
   stops_same : (folder : Folder) (place : ℕ) (before new : Reached D) (result : Result (Unit {0}) JobFault)
       → LacksPath before new result ⊎ ((named : NamesRow d (sought_by h seed as_drawn config guest Fills) folder place before new) × (named.result ≡ result))
@@ -117,7 +119,7 @@ pub ends_weaker : {D : Type 0} (d : Ghosts D) (it : Hunter D) (More : List ℕ �
     → ((at : List ℕ) (disk : D) → it.Fills at disk → More at disk) → EndsHunt d (wanted_of it guest input asked) old new told result → EndsHunt d (wanted_of (record it { Fills = More }) guest input asked) old new told result
 ends_weaker d it More guest input asked old new (Ok told) result more e = record {
   kept = e.kept;
-  keeps = at_weaker d (hunted_of guest asked.shape input) asked.seeds.first asked.races (config_of it.asked) guest it.Fills More (place_of it.asked.keep told.done.outcomes.rows.items) old new e.kept more e.keeps;
+  keeps = at_weaker d (hunted_of guest asked.shape input) asked.seeds.first asked.races (config_of it.asked) guest it.Fills More (place_of it.asked.keep asked.all_rows told.done.outcomes.rows.items) old new e.kept more e.keeps;
   gives = e.gives;
 }
 ends_weaker d it More guest input asked old new (Err f) result more e = e

@@ -10,14 +10,15 @@ use Rattle.ckrt_main.specs.declared.fault.ServeFault.TheVariants as serve
 use Rattle.ckrt_memory.specs.declared.MemoryError.{MemoryError}
 use Rattle.ckrt_memory.specs.declared.MemoryError.TheVariants as memory
 use Rattle.ckrt_hunt_schedules.specs.Seeds.{ends_of, seeds_of}
-use Rattle.ckrt_hunt_schedules.specs.Short.{IsFound}
+use Rattle.ckrt_hunt_schedules.specs.Short.{IsChosen}
+use Rattle.ckrt_hunt_schedules.specs.Shown.{is_shown_at}
 use Rattle.ckrt_hunt_schedules.specs.Table.{kept_text, unkept_text}
 use Rattle.ckrt_hunt_schedules.specs.Tallies.{Hunted, hunted_of, numbers_of, plan_in, shape_of}
 use Rattle.ckrt_hunt_schedules.specs.Turns.{bytes_of}
 use Rattle.ckrt_hunt_schedules.specs.declared.plan.Input.{Input}
 use Rattle.ckrt_hunt_schedules.specs.declared.plan.Plan.{Plan}
 use Rattle.ckrt_hunt_schedules.specs.declared.row.Row.{Row}
-use Rattle.ckrt_hunt_schedules.specs.declared.shorten.Found.{Found}
+use Rattle.ckrt_hunt_schedules.specs.declared.shorten.Chosen.{Chosen}
 use Rattle.ckrt_hunt_schedules.specs.declared.table.Asked.{Asked}
 use Rattle.ckrt_hunt_schedules.specs.declared.telling.HuntFault.{HuntFault}
 use Rattle.ckrt_hunt_schedules.specs.declared.telling.HuntFault.TheVariants as hunt
@@ -104,12 +105,14 @@ sought_in h told Fills =
 -- What is wanted of a hunt besides what is told: disks at this path, if any, and which runs they have.
 pub record Wanted (D : Type 0) : Type 1 where
   pub path : Option (List ℕ)
+  pub all_rows : Bool
   pub sought : Sought D
 
 -- the run of the first seed of the range
 abbrev pub wanted_of : {D : Type 0} → Hunter D → (guest : List ℕ) → Input → Asked → Wanted D
 wanted_of it guest input asked = record {
   path = it.asked.keep;
+  all_rows = asked.all_rows;
   sought = sought_by (hunted_of guest asked.shape input) asked.seeds.first asked.races (config_of it.asked) guest it.Fills;
 }
 
@@ -138,30 +141,36 @@ TellsKept told a b (Ok done) result =
     ((result ≡ Ok tt) × Appends a b told) ⊎ (result ≡ Err (job.Serve serve.Write))
 TellsKept told a b (Err f) result = (result ≡ Err f) × (b ≡ a)
 
--- the plan is that of the seed, where its run is kept as it was drawn
-abbrev pub IsAsDrawn : Hunted → (seed : ℕ) → (as_drawn : Bool) → Found → Type 0
-IsAsDrawn h seed true found = found.plan ≡ plan_in h seed
-IsAsDrawn h seed false found = Unit {0}
+-- it is the seed itself, by its own plan, where its run is kept as it was drawn
+abbrev pub IsAsDrawn : Hunted → (seed : ℕ) → (as_drawn : Bool) → Chosen → Type 0
+IsAsDrawn h seed true chosen = (chosen.seed ≡ seed) × (chosen.found.plan ≡ plan_in h seed)
+IsAsDrawn h seed false chosen = Unit {0}
 
--- the run of the seed was kept, as it was drawn or by the shortest schedule that was found, and that is told
+-- a run was kept that comes to what the seed comes to, as that was drawn or by the shortest schedule that was found, and it is told of which seed
+-- it is
 pub record KeepsFound {D : Type 0} (d : Ghosts D) (sought : Sought D) (path : List ℕ)
     (old new : Reached D) (result : Result (Unit {0}) JobFault) : Type 0 where
-  pub found : Found
-  pub is_found : IsFound sought.hunted sought.seed found
-  pub drawn : IsAsDrawn sought.hunted sought.seed sought.as_drawn found
+  pub chosen : Chosen
+  pub is_chosen : IsChosen sought.hunted sought.seed chosen
+  pub drawn : IsAsDrawn sought.hunted sought.seed sought.as_drawn chosen
   pub kept : Result (Unit {0}) JobFault
-  pub keeps : Keeps d (sought.keeping found.plan path) old.openings new.openings kept
-  pub tells : TellsKept (kept_text sought.seed path found) old.written new.written kept result
+  pub keeps : Keeps d (sought.keeping chosen.found.plan path) old.openings new.openings kept
+  pub tells : TellsKept (kept_text path chosen) old.written new.written kept result
 
 -- THE DISKS OF A FOLDER
 
--- a folder, and the outcomes that each get a disk there
+-- a folder, and the outcomes, of which those that have lines each get a disk there
 pub record Folder : Type 0 where
   pub path : List ℕ
   pub rows : List Row
+  pub all_rows : Bool
 
 abbrev pub folder_at : KeptAt → Folder
-folder_at at = record { path = at.path.now; rows = at.told.rows.now }
+folder_at at = record { path = at.path.now; rows = at.told.rows.now; all_rows = at.told.all_rows }
+
+-- the outcome at this place has lines
+abbrev pub is_kept : Folder → (place : ℕ) → Bool
+is_kept folder place = is_shown_at folder.all_rows folder.rows (slice_get folder.rows place)
 
 -- the disk of an outcome, by its number
 abbrev pub outcome_path : (folder : List ℕ) → (number : ℕ) → List ℕ
@@ -183,12 +192,25 @@ pub record KeptOneMore {D : Type 0} (d : Ghosts D) (sought : Sought D) (folder :
   pub is_row : slice_get folder.rows place ≡ Some row
   pub keeps : KeepsFound d (sought_of sought row) (outcome_path folder.path (place + 1)) before new (Ok tt)
 
--- the runs of the first n outcomes were kept, in their order
+-- one more was kept, or nothing
+abbrev pub KeptNext : {D : Type 0} → (is_kept : Bool)
+    → (OneMore : (Reached D → Type 0) → Reached D → Type 0) → (WasSo : Reached D → Type 0)
+    → (new : Reached D) → Type 0
+KeptNext true OneMore WasSo new = OneMore WasSo new
+KeptNext false OneMore WasSo new = WasSo new
+
+-- the outcome at this place was kept, if it has lines
+abbrev pub KeptIfShown : {D : Type 0} → Ghosts D → Sought D → Folder → (place : ℕ)
+    → (WasSo : Reached D → Type 0) → (new : Reached D) → Type 0
+KeptIfShown d sought folder place WasSo new =
+    KeptNext (is_kept folder place) (λ Was after. KeptOneMore d sought folder place Was after) WasSo new
+
+-- the runs of those of the first n outcomes that have lines were kept, in their order
 abbrev pub AreKept : {D : Type 0} → Ghosts D → Sought D → Folder → (n : ℕ) → (old new : Reached D)
     → Type 0
 AreKept d sought folder zero old new = new ≡ old
 AreKept d sought folder (suc n) old new =
-    KeptOneMore d sought folder n (AreKept d sought folder n old) new
+    KeptIfShown d sought folder n (AreKept d sought folder n old) new
 
 -- a run that wasn't kept is named, or the writer failed
 abbrev pub TellsUnkept : (told : List ℕ) → JobFault → (a b : Option (List ℕ))
@@ -222,7 +244,7 @@ pub record StopsAtRow {D : Type 0} (d : Ghosts D) (sought : Sought D) (folder : 
   pub stops : LacksPath before new result
       ⊎ ((named : NamesRow d sought folder place before new) × (named.result ≡ result))
 
--- the run of each outcome was kept, or of those before the first one whose run wasn't
+-- a run of each outcome that has lines was kept, or of those before the first one whose run wasn't
 abbrev pub KeepsEach : {D : Type 0} → Ghosts D → Sought D → Folder → (old new : Reached D)
     → Result (Unit {0}) JobFault → Type 0
 KeepsEach d sought folder old new result =
@@ -245,10 +267,11 @@ is_slash (Some b) = b == 47
 abbrev pub is_folder : (path : List ℕ) → Bool
 is_folder path = is_slash (slice_get path (length path - 1))
 
-abbrev pub place_of : Option (List ℕ) → List Row → Place
-place_of None rows = nowhere
-place_of (Some path) rows =
-    if is_folder path then in_folder (record { path = path; rows = rows }) else on_disk path
+abbrev pub place_of : Option (List ℕ) → (all_rows : Bool) → List Row → Place
+place_of None all_rows rows = nowhere
+place_of (Some path) all_rows rows =
+    if is_folder path then in_folder (record { path = path; rows = rows; all_rows = all_rows })
+    else on_disk path
 
 abbrev pub KeepsAt : {D : Type 0} → Ghosts D → Sought D → (old new : Reached D)
     → Result (Unit {0}) JobFault → Place → Type 0
@@ -267,7 +290,8 @@ answer_of (Err f) verdict = Err f
 pub record EndsTold {D : Type 0} (d : Ghosts D) (wanted : Wanted D) (asked new : Reached D)
     (told : HuntTold) (result : Result Verdict JobFault) : Type 0 where
   pub kept : Result (Unit {0}) JobFault
-  pub keeps : KeepsAt d wanted.sought asked new kept (place_of wanted.path told.done.outcomes.rows.items)
+  pub keeps : KeepsAt d wanted.sought asked new kept
+      (place_of wanted.path wanted.all_rows told.done.outcomes.rows.items)
   pub gives : result ≡ answer_of kept (verdict_on told)
 
 -- where it wasn't told nothing is kept
@@ -338,6 +362,7 @@ pub record IsAsked (h : Hunting) (asked : Asked) : Type 0 where
   pub input : option_map (λ path. path.now) asked.input ≡ h.input
   pub races : asked.races ≡ h.races
   pub output : asked.shape.ignores_output ≡ h.ignore_output
+  pub all_rows : asked.all_rows ≡ h.all_rows
 
 -- the image and the input were read, and it was hunted: the table and the races were written, and then what is told of a run that was kept
 pub record HuntsImage {D : Type 0} (d : Ghosts D) (it : Hunter D) (old new : Outside D)

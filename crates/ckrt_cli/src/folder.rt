@@ -3,14 +3,14 @@ ghost use Rattle.std.specs.Prelude.{◌≡◌, ◌<◌, ◌⊎◌, Err, IfOk, On
 ghost use Rattle.ckrt_checkpoint.specs.Layout.{is_valid};
 ghost use Rattle.ckrt_hunt_schedules.specs.Table.{unkept_text};
 ghost use Rattle.ckrt_hunt_schedules.specs.Tallies.{hunted_of};
-ghost use Rattle.ckrt_cli.specs.Hunting.{KeepsEach, KeptOneMore, LacksPath, LacksRoom, NamesRow, TellsUnkept, folder_at, is_folder, outcome_path, reached, sought_in};
+ghost use Rattle.ckrt_cli.specs.Hunting.{KeepsEach, KeptIfShown, KeptOneMore, LacksPath, LacksRoom, NamesRow, TellsUnkept, folder_at, is_folder, outcome_path, reached, sought_in};
 
-use crate::found::{KeptAt, keep_run, room_fault_of};
+use crate::found::{KeptAt, SeedsOf, keep_run, room_fault_of};
 use crate::keeping::Kept;
 use ckrt_cli_faults::JobFault;
 use ckrt_cli_files::Sources;
 use ckrt_disk::Disk;
-use ckrt_hunt_schedules::{Hunt, Tries, room_for, write_unkept};
+use ckrt_hunt_schedules::{Hunt, Tries, is_shown, room_for, write_unkept};
 use ckrt_main::ServeFault;
 use std::alloc::{AllocError, Global};
 use std::io::{Read, Write};
@@ -55,7 +55,7 @@ fn tell_unkept<W: Write>(writer: &mut W, seed: u64, path: &str, why: JobFault) -
     }
 }
 
-/// Keeps the run of an outcome in a folder, or names it where it isn't kept.
+/// Keeps a run of an outcome in a folder, or names it where it isn't kept.
 fn keep_row<'a, I: Read, D: Disk, S: Sources<'a, I, D>, W: Write>(
     alloc: Global,
     at: &KeptAt<'a, '_, '_>,
@@ -81,7 +81,11 @@ fn keep_row<'a, I: Read, D: Disk, S: Sources<'a, I, D>, W: Write>(
         × (named.result ≡ result))) }
     ensures same { hunt.new ≡ hunt.old }
 {
-    let seed = at.told.rows[place].first;
+    let row = &at.told.rows[place];
+    let seeds = SeedsOf {
+        first: row.first,
+        later: row.later(),
+    };
     let path = match outcome_path(alloc, at.path, place + 1) {
         Ok(path) => path,
         Err(_) => return Err(JobFault::OutOfMemory),
@@ -92,13 +96,46 @@ fn keep_row<'a, I: Read, D: Disk, S: Sources<'a, I, D>, W: Write>(
         image: at.told.image,
         as_drawn: at.told.as_drawn,
     };
-    match keep_run::<I, D, S, W>(alloc, seed, hunt, tries, &what, sources, writer) {
+    match keep_run::<I, D, S, W>(alloc, &seeds, hunt, tries, &what, sources, writer) {
         Ok(()) => Ok(()),
-        Err(why) => Err(tell_unkept(writer, seed, path, why)),
+        Err(why) => Err(tell_unkept(writer, seeds.first, path, why)),
     }
 }
 
-/// Keeps the run of each outcome in a folder, in their order, up to the first one that isn't kept.
+/// The same of an outcome that has lines. Of any other nothing is kept.
+fn keep_if_shown<'a, I: Read, D: Disk, S: Sources<'a, I, D>, W: Write>(
+    alloc: Global,
+    at: &KeptAt<'a, '_, '_>,
+    place: usize,
+    hunt: &mut Hunt<'_>,
+    tries: &mut Tries,
+    sources: &mut S,
+    writer: &mut W,
+) -> Result<(), JobFault>
+    requires config { is_valid at.now.told.config ≡ true }
+    requires place { place < length at.now.told.rows.now }
+    ensures kept { OnOk result (KeptIfShown D.Disk
+        (sought_in hunt.old at.now.told (S.fills sources.old)) (folder_at at.now) place
+        (λ r. r ≡ reached (S.openings sources.old) (W.contents writer.old))
+        (reached (S.openings sources.new) (W.contents writer.new))) }
+    ensures stops { OnErr result
+        (LacksPath (reached (S.openings sources.old) (W.contents writer.old))
+        (reached (S.openings sources.new) (W.contents writer.new)) result
+        ⊎ ((named : NamesRow D.Disk
+        (sought_in hunt.old at.now.told (S.fills sources.old)) (folder_at at.now) place
+        (reached (S.openings sources.old) (W.contents writer.old))
+        (reached (S.openings sources.new) (W.contents writer.new)))
+        × (named.result ≡ result))) }
+    ensures same { hunt.new ≡ hunt.old }
+{
+    let told = &at.told;
+    if is_shown(told.all_rows, told.rows, &told.rows[place]) {
+        return keep_row::<I, D, S, W>(alloc, at, place, hunt, tries, sources, writer);
+    }
+    Ok(())
+}
+
+/// Keeps a run of each outcome that has lines in a folder, in their order, up to the first one that isn't kept.
 fn keep_rows<'a, I: Read, D: Disk, S: Sources<'a, I, D>, W: Write>(
     alloc: Global,
     at: &KeptAt<'a, '_, '_>,
@@ -113,12 +150,12 @@ fn keep_rows<'a, I: Read, D: Disk, S: Sources<'a, I, D>, W: Write>(
         (reached (S.openings sources.new) (W.contents writer.new)) result }
 {
     for place in 0..at.told.rows.len() {
-        keep_row::<I, D, S, W>(alloc, at, place, hunt, tries, sources, writer)?;
+        keep_if_shown::<I, D, S, W>(alloc, at, place, hunt, tries, sources, writer)?;
     }
     Ok(())
 }
 
-/// Keeps the run of each outcome in a folder, by the plan that is found.
+/// Keeps a run of each outcome that has lines in a folder, by the plan that is found.
 pub(crate) fn keep_in_folder<'a, I: Read, D: Disk, S: Sources<'a, I, D>, W: Write>(
     alloc: Global,
     at: &KeptAt<'a, '_, '_>,

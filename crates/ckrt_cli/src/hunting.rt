@@ -18,7 +18,7 @@ use ckrt_cli_words::HuntJob;
 use ckrt_disk::Disk;
 use ckrt_hunt_races::{HuntTold, hunt_as_asked};
 use ckrt_hunt_schedules::{
-    Asked, HuntFault, HuntOnlooker, HuntWatch, Input, Seeds, Shape, Verdict,
+    Asked, HuntFault, HuntOnlooker, HuntWatch, Input, Seeds, Shape, TableWatch, Verdict,
 };
 use ckrt_main::ServeFault;
 use ckrt_recovery::{Config, FormatFault};
@@ -67,6 +67,23 @@ fn seeds_for(job: &HuntJob<'_>) -> Option<Seeds>
         }),
         (None, Some(text)) => Seeds::read(text),
         (None, None) => Seeds::read("1-200"),
+    }
+}
+
+/// What is told of a hunt while it runs.
+fn watch_of<'a>(job: &HuntJob<'a>, asked: &Asked<'a>) -> HuntWatch<'a> {
+    let table = match job.table {
+        Some(path) => Some(TableWatch {
+            path,
+            asked: *asked,
+            disk: job.keep,
+        }),
+        None => None,
+    };
+    HuntWatch {
+        seconds: job.seconds,
+        progress: job.progress,
+        table,
     }
 }
 
@@ -167,7 +184,8 @@ fn keep_if_asked<'a, I: Read, D: Disk, S: Sources<'a, I, D>, W: Write>(
         (S.fills sources.old))
         (reached (S.openings sources.old) (W.contents writer.old))
         (reached (S.openings sources.new) (W.contents writer.new)) result
-        (place_of (option_map (λ path. path.now) keep.entry) told.entry.rows.now) }
+        (place_of (option_map (λ path. path.now) keep.entry) told.entry.all_rows
+        told.entry.rows.now) }
 {
     let Some(path) = keep else {
         return Ok(());
@@ -201,10 +219,7 @@ fn hunt_image<'a, I: Read, D: Disk, S: Sources<'a, I, D>, W: Write, O: HuntOnloo
         (reached (S.openings sources.old) table)
         (reached (S.openings sources.new) (W.contents writer.new)) told result }
 {
-    onlooker.begin_hunt(HuntWatch {
-        seconds: job.seconds,
-        progress: job.progress,
-    });
+    onlooker.begin_hunt(alloc, watch_of(job, &hunted.asked));
     match tell(alloc, hunted, onlooker, writer) {
         Ok(told) => {
             let input = hunted.input;
@@ -216,6 +231,7 @@ fn hunt_image<'a, I: Read, D: Disk, S: Sources<'a, I, D>, W: Write, O: HuntOnloo
                 first: hunted.asked.seeds.first,
                 rows: told.done.outcomes.rows(),
                 as_drawn: hunted.asked.races,
+                all_rows: hunted.asked.all_rows,
             };
             let kept = keep_if_asked::<I, D, S, W>(alloc, job.keep, kept_of, sources, writer);
             answer_of(kept, told.verdict())
@@ -283,6 +299,7 @@ pub fn hunt_path<'a, I: Read + Drop, D: Disk, S: Sources<'a, I, D>, W: Write, O:
         may_end: job.seconds.is_some(),
         input: job.input,
         races: job.races,
+        all_rows: job.all_rows,
     };
     let hunted = Hunted {
         image: &image,

@@ -1,5 +1,5 @@
 -- The numbers of the words: what is given where they have none, and which of them are in their ranges.
-use Rattle.std.specs.Prelude.{◌&&◌, ℕ, nat_lt, nat_le, Bool, true, false, List, Option, Some, None, unwrap_or}
+use Rattle.std.specs.Prelude.{◌&&◌, ℕ, nat_lt, nat_le, Bool, true, false, List, not, Option, Some, None, unwrap_or}
 use Rattle.ckrt_checkpoint.specs.declared.config.Config.{Config}
 use Rattle.ckrt_record.specs.Slot.{TAKEN_LIMIT}
 use Rattle.ckrt_cli_words.specs.Jobs.{Driving, Hunting}
@@ -50,6 +50,13 @@ abbrev pub is_time : Option ℕ → Bool
 is_time None = true
 is_time (Some seconds) = nat_lt 0 seconds && nat_le seconds 31536000
 
+-- a table that is written while a hunt runs has no races
+abbrev pub is_tabled : (table : Option (List ℕ)) → (races : Bool) → Bool
+is_tabled None races = true
+is_tabled (Some path) races = not races
+
 -- what a hunt is told besides its sizes and the text of its seeds
 abbrev pub is_hunt_in_range : Hunting → Bool
-is_hunt_in_range h = is_choice h.seeds h.seconds && (is_time h.seconds && is_interval h.progress)
+is_hunt_in_range h =
+    is_choice h.seeds h.seconds
+    && (is_time h.seconds && (is_interval h.progress && is_tabled h.table h.races))

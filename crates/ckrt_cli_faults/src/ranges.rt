@@ -1,7 +1,7 @@
 //! The numbers of the words: what is given where they have none, and which of them are in their ranges.
 ghost use Rattle.std.specs.Prelude.{◌≡◌, option_map};
 ghost use Rattle.ckrt_cli_words.specs.Jobs.{driving_of, hunting_of};
-ghost use Rattle.ckrt_cli_faults.specs.Ranges.{config_for, is_choice, is_hunt_in_range, is_in_range, is_intake, is_target, is_time};
+ghost use Rattle.ckrt_cli_faults.specs.Ranges.{config_for, is_choice, is_hunt_in_range, is_in_range, is_intake, is_tabled, is_target, is_time};
 
 use ckrt_cli_words::{DriveJob, HuntJob, Sizes};
 use ckrt_events::LONG_RUN_LIMIT;
@@ -69,9 +69,20 @@ pub fn is_time(seconds: Option<u64>) -> bool
     }
 }
 
-/// Whether the numbers of a hunt, but for its sizes, are in their ranges, and it takes seeds from one range or by time.
+/// Whether a file may have the table of a hunt while it runs: where it isn't looked at for races.
+pub fn is_tabled(table: Option<&str>, races: bool) -> bool
+    ensures { result ≡ is_tabled (option_map (λ path. path.now) table.entry) races }
+{
+    table.is_none() || !races
+}
+
+/// Whether the numbers of a hunt, but for its sizes, are in their ranges, it takes seeds from one range or by time, and no file has its table
+/// where that has races.
 pub fn is_hunt_in_range(job: &HuntJob<'_>) -> bool
     ensures { result ≡ is_hunt_in_range (hunting_of job.now) }
 {
-    is_choice(job.seeds, job.seconds) && is_time(job.seconds) && job.progress != Some(0)
+    is_choice(job.seeds, job.seconds)
+        && is_time(job.seconds)
+        && job.progress != Some(0)
+        && is_tabled(job.table, job.races)
 }

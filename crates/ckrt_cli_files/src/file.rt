@@ -68,6 +68,10 @@ pub enum FileFault {
     NotAStatus,
     /// Something else than a status has the path of one that is written.
     NotANewStatus,
+    /// It holds something else than the table of a hunt.
+    NotATable,
+    /// Something else than a table has the path of one that is written.
+    NotANewTable,
     /// Something else than a core has the path of one.
     NotACore,
     /// Something else than a core has the path of one in the making.
@@ -78,6 +82,8 @@ pub enum FileFault {
     IsThere,
     /// Something has the path of a disk that is to be made.
     IsTaken,
+    /// Something else than a disk in the making has the path of one that is to be made.
+    NotAMaking,
     /// No file may be made in the folder of a disk that is to be made.
     NotWritable,
     /// The system refused memory.
@@ -175,6 +181,10 @@ impl FileFault {
                 "it is no status of a drive, and is unchanged; move it away, or give another path",
             FileFault::NotANewStatus =>
                 "what has this path with .new behind it is no status, and is unchanged; move it away, or give another path",
+            FileFault::NotATable =>
+                "it is no table of a hunt, and is unchanged; move it away, or give another path",
+            FileFault::NotANewTable =>
+                "what has this path with .new behind it is no table, and is unchanged; move it away, or give another path",
             FileFault::NotACore =>
                 "it is no core, and is unchanged; move it away, or give another path",
             FileFault::NotInWriting =>
@@ -185,6 +195,8 @@ impl FileFault {
                 "something has the disk's path meanwhile; look at it, then give the command again",
             FileFault::IsTaken =>
                 "something has this path already; move that away, or give another path",
+            FileFault::NotAMaking =>
+                "what has this path with .making behind it is no disk in the making, and is unchanged; move it away, then give the command again",
             FileFault::NotWritable =>
                 "no file can be made in its folder; see to its permissions, or give another path",
             FileFault::OutOfMemory => "the system refused memory",

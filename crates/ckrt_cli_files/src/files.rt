@@ -286,23 +286,43 @@ fn has_folder<R: Files>(rt: &R, path: &str) -> Result<(), FileFault> {
     }
 }
 
-/// That a file of this name can be made: one is, and goes again. What has the name already stays as it is.
-fn try_to_make<R: Files<File = File>>(rt: &R, name: &str) -> Result<(), FileFault> {
+/// That what has this name already is a disk in the making, which nobody has locked. It stays as it is.
+fn look_at_making<R: Files<File = File>>(
+    rt: &R,
+    alloc: Global,
+    name: &str,
+) -> Result<(), FileFault> {
+    let file = match open_locked(rt, name, Taken::There) {
+        Ok(file) => file,
+        Err(FileFault::InUse) => return Err(FileFault::InUse),
+        Err(_) => return Err(FileFault::NotAMaking),
+    };
+    if is_in_making(alloc, &file)? {
+        Ok(())
+    } else {
+        Err(FileFault::NotAMaking)
+    }
+}
+
+/// That a file of this name can be made: one is, and goes again. What has the name already has to be a disk in the making.
+fn try_to_make<R: Files<File = File>>(rt: &R, alloc: Global, name: &str) -> Result<(), FileFault> {
     match open_locked(rt, name, Taken::Made) {
         Ok(file) => {
             remove(rt, name);
             drop(file);
             Ok(())
         }
-        Err(FileFault::IsThere) => Ok(()),
+        Err(FileFault::IsThere) => look_at_making(rt, alloc, name),
         Err(FileFault::PermissionDenied) => Err(FileFault::NotWritable),
         Err(fault) => Err(fault),
     }
 }
 
-/// That a disk can be made for a path, beside it by this name: the folder is there and takes a file, and nothing has the path.
+/// That a disk can be made for a path, beside it by this name: the folder is there and takes a file, nothing has the path, and nothing but a
+/// disk in the making the name.
 pub(crate) fn look_at_place<R: Files<File = File>>(
     rt: &R,
+    alloc: Global,
     path: &str,
     name: &str,
 ) -> Result<(), FileFault> {
@@ -310,7 +330,7 @@ pub(crate) fn look_at_place<R: Files<File = File>>(
     if is_taken(rt, path)? {
         return Err(FileFault::IsTaken);
     }
-    try_to_make(rt, name)
+    try_to_make(rt, alloc, name)
 }
 
 /// Whether a file is a disk in the making, as one that was cut may have left it.

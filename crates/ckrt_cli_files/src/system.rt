@@ -433,7 +433,7 @@ impl<'a, R: Files<File = File>, H: Holds> Sources<'a, File, RealDisk<'a, H>>
 
     fn look_at_place(&self, alloc: Global, path: &str) -> Result<(), FileFault> {
         let name = beside(alloc, path)?;
-        look_at_place(self.rt, path, &name)
+        look_at_place(self.rt, alloc, path, &name)
     }
 
     fn last_reason(&self) -> OutputReason {

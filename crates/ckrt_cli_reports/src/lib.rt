@@ -5,16 +5,18 @@
 //! where the writer failed; the status is that of the outcome.
 //!
 //! Only tested: what is said of a fault in plain words, with the path of its file (`texts` of `ckrt_test_drive`); the lines on how
-//! far a drive or a hunt is, when a hunt by time ends, that what is said is flushed.
+//! far a drive or a hunt is, when a hunt by time ends, when a table is written, and that what is said is flushed.
 #![tactic(auto)]
 
 mod hunted;
 mod meter;
+mod replaced;
 mod reporter;
 mod reporting;
 mod rhythm;
 mod sentences;
 mod status;
+mod table;
 mod version;
 
 pub use meter::SystemMeter;

@@ -6,11 +6,13 @@ ghost use Rattle.ckrt_cli_reports.specs.Standings.{readings_of};
 use crate::hunted::HuntTimes;
 use crate::rhythm::Rhythm;
 use crate::status::StatusFile;
+use crate::table::TableFile;
 use ckrt_cli_faults::{Meter, Watch};
+use ckrt_cli_files::FileFault;
 use ckrt_disk::Disk;
 use ckrt_drive::{Onlooker, StepDone};
 use ckrt_events::Event;
-use ckrt_hunt_schedules::{HuntOnlooker, HuntWatch, Tally};
+use ckrt_hunt_schedules::{HuntOnlooker, HuntWatch, Outcomes, Seeds, TableWatch, Tally};
 use ckrt_inspect::{Readings, Standing};
 use ckrt_machine::Answer;
 use ckrt_recovery::Session;
@@ -41,6 +43,9 @@ const STEPS_PER_LOOK: u32 = 64;
 
 /// The seconds from one status to the next.
 const STATUS_INTERVAL: u64 = 10;
+
+/// The seconds from one table to the next.
+const TABLE_INTERVAL: u64 = 5;
 
 /// What was counted since a drive began.
 #[derive(Clone, Copy)]
@@ -101,14 +106,17 @@ impl Counts {
 /// Tells from time to time how far a drive is: by a line on standard error, with the events of the disk since its first one, guest
 /// steps since the drive began, guest steps a second since the last line, bytes of output of acknowledged events, generation, and
 /// the room that the journal has left in bytes; and by a file. Of a hunt the line has the seeds that were run and the last of them, seeds a
-/// second since the last line, and how many outcomes there are. Where the clock or standard error fails there is no line.
+/// second since the last line, and how many outcomes there are; and a file has its table. Where the clock or standard error fails there is no
+/// line.
 #[derive(Drop)]
 pub struct SystemMeter<'a, R> {
     rt: &'a R,
     lines: Rhythm,
     statuses: Rhythm,
     status: Option<StatusFile>,
-    /// Whether the last status could be written.
+    tables: Rhythm,
+    table: Option<TableFile>,
+    /// Whether the last status or table could be written.
     is_written: bool,
     unlooked: u32,
     counts: Counts,
@@ -124,6 +132,8 @@ impl<'a, R: Clock + Eprint + Files<File = File>> SystemMeter<'a, R> {
             lines: Rhythm::never(),
             statuses: Rhythm::never(),
             status: None,
+            tables: Rhythm::never(),
+            table: None,
             is_written: true,
             unlooked: 0,
             counts: Counts::new(),
@@ -188,6 +198,43 @@ impl<'a, R: Clock + Eprint + Files<File = File>> SystemMeter<'a, R> {
         self.is_written = written.is_ok();
     }
 
+    /// Says that the table can't be written, where that isn't so, once until it goes well again.
+    fn tell_table(&mut self, written: Result<(), FileFault>) {
+        if let (Err(fault), Some(table)) = (written, &self.table) {
+            if self.is_written {
+                let _ = eprintln!(self.rt; "ckrt: the table {}: {}", table.path(), fault.text());
+            }
+        }
+        self.is_written = written.is_ok();
+    }
+
+    /// Takes the file of a table, and looks at whether it can be written.
+    fn take_table(&mut self, alloc: Global, watch: &TableWatch<'_>) {
+        self.table = TableFile::new(alloc, watch);
+        self.tables = Rhythm {
+            interval: Some(Duration::from_secs(TABLE_INTERVAL)),
+            last: self.moment(),
+        };
+        let free = match &self.table {
+            Some(table) => table.expect_free(self.rt),
+            None => Ok(()),
+        };
+        self.tell_table(free);
+    }
+
+    /// Writes the table of the seeds up to this one, where that is due.
+    fn write_table_due(&mut self, seed: u64, tally: &Tally) {
+        if self.tables.due(self.rt).is_none() {
+            return;
+        }
+        let Some(table) = &mut self.table else {
+            return;
+        };
+        let written = table.write_so_far(self.rt, seed, tally);
+        self.tell_table(written);
+        self.tables.last = self.moment();
+    }
+
     /// Tells what is due.
     fn tell_due<D: Disk>(&mut self, session: &Session<D>) {
         if let Some(since) = self.lines.due(self.rt) {
@@ -241,13 +288,16 @@ impl<'a, R: Clock + Eprint + Files<File = File>> Meter for SystemMeter<'a, R> {
 impl<'a, R: Clock + Eprint + Files<File = File>> HuntOnlooker for SystemMeter<'a, R> {
     ghost Answers = { λ _ _. Unit {0} };
 
-    fn begin_hunt(&mut self, watch: HuntWatch) {
+    fn begin_hunt(&mut self, alloc: Global, watch: HuntWatch<'_>) {
         let moment = self.moment();
         self.hunt = HuntTimes::begun(moment, watch.seconds);
         self.lines = Rhythm {
             interval: watch.progress.map(Duration::from_secs),
             last: moment,
         };
+        if let Some(table) = &watch.table {
+            self.take_table(alloc, table);
+        }
     }
 
     fn has_time(&mut self, seed: u64, tally: &Tally) -> bool {
@@ -255,6 +305,15 @@ impl<'a, R: Clock + Eprint + Files<File = File>> HuntOnlooker for SystemMeter<'a
         if let Some(since) = self.lines.due(self.rt) {
             self.print_hunt(since, seed, tally);
         }
+        self.write_table_due(seed, tally);
         self.hunt.has_time(self.rt)
+    }
+
+    fn end_hunt(&mut self, seeds: Seeds, outcomes: &Outcomes) {
+        let Some(table) = &mut self.table else {
+            return;
+        };
+        let written = table.write(self.rt, seeds, outcomes);
+        self.tell_table(written);
     }
 }

@@ -114,6 +114,9 @@ fn unfit_hunt(job: &HuntJob<'_>) -> Sentence<'static> {
     if job.progress == Some(0) {
         return plain(NO_PROGRESS);
     }
+    if job.races && job.table.is_some() {
+        return plain("--table doesn't go with --races: ");
+    }
     plain(
         "--seeds isn't FIRST-LAST, two numbers below 2^64 - 1, the first one not above the last: ",
     )
@@ -199,6 +202,12 @@ pub(crate) fn numbers_of(job: &Job<'_>, fault: JobFault) -> Sentence<'static> {
     }
 }
 
+/// What the disk in the making is of a run that is kept in a folder.
+const MADE_IN_FOLDER: &str = "the disk in the making of that run, in ";
+
+/// What the disk of a run is that is kept in a folder.
+const DISK_IN_FOLDER: &str = "the disk of that run, in ";
+
 /// What stands for the path of an output that is printed.
 const STANDARD_OUTPUT: &str = "(standard output)";
 
@@ -230,12 +239,25 @@ fn path<'a>(job: &Job<'a>, file: JobFile) -> &'a str {
     }
 }
 
-/// What the file of a fault is, its path, and what stands behind that.
+/// Whether the words of a job name a folder for what it makes.
+fn is_into_folder(job: &Job<'_>) -> bool {
+    match job {
+        Job::Hunt(job) => job.keep.unwrap_or("").ends_with("/"),
+        _ => false,
+    }
+}
+
+/// What the file of a fault is, its path, and what stands behind that. Which disk of a folder it is says the line of the run that isn't kept.
 pub(crate) fn subject_of<'a>(job: &Job<'a>, file: JobFile) -> [Piece<'a>; 4] {
+    let (text, ending) = match file {
+        JobFile::Making if is_into_folder(job) => (MADE_IN_FOLDER, ""),
+        JobFile::Disk if is_into_folder(job) => (DISK_IN_FOLDER, ""),
+        _ => (file.text(), file.ending()),
+    };
     [
-        Piece::Text(file.text()),
+        Piece::Text(text),
         Piece::Text(path(job, file)),
-        Piece::Text(file.ending()),
+        Piece::Text(ending),
         Piece::Text(": "),
     ]
 }

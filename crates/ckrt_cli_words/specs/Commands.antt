@@ -3,7 +3,7 @@
 -- `debug DISK [--at K]`, `races DISK [--from K] [--to K] [--last N] [--names FILE]`,
 -- `timeline DISK [--from K] [--to K] [--last N] [--names FILE] [--width W] [--json]`,
 -- `profile DISK [--from K] [--to K] [--last N] [--names FILE] [--folded | --callgrind]`,
--- `hunt IMAGE [--seeds A-B | --seconds S] [--pages P] [--harts H] [--input FILE] [--steps N] [--races] [--ignore-output] [--keep DISK | FOLDER/] [--progress SECONDS]
+-- `hunt IMAGE [--seeds A-B | --seconds S] [--pages P] [--harts H] [--input FILE] [--steps N] [--races] [--ignore-output] [--rows] [--keep DISK | FOLDER/] [--table FILE] [--progress SECONDS]
 -- [--names FILE]` and
 -- `drive DISK [--image IMAGE] [--pages P] [--harts H] [--journal J] [--input FILE] [--input-from OFFSET] [--output FILE] [--turn N] [--rounds-per-commit R] [--events N] [--seed S]
 -- [--progress SECONDS] [--status FILE] [--from OFFSET] [--names FILE]`.
@@ -112,7 +112,8 @@ profile_app =
 
 abbrev pub hunt_app : App
 hunt_app =
-    with_rule (with_rule (with_rule (with_rule (with_rule (with_rule (with_rule (with_rule (with_rule (with_rule (with_rule (with_rule (new_app (codes "hunt"))
+    with_rule (with_rule (with_rule (with_rule (with_rule (with_rule (with_rule (with_rule (with_rule (with_rule (with_rule (with_rule
+    (with_rule (with_rule (new_app (codes "hunt"))
     (needed_rule (codes "image")))
     (option_rule (codes "seeds")))
     (place_rule (codes "seconds")))
@@ -122,7 +123,9 @@ hunt_app =
     (number_rule (codes "steps") (codes "10000000")))
     (flag_rule (codes "races")))
     (flag_rule (codes "ignore-output")))
+    (flag_rule (codes "rows")))
     (option_rule (codes "keep")))
+    (option_rule (codes "table")))
     (place_rule (codes "progress")))
     (option_rule (codes "names"))
 

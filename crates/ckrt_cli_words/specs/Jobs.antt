@@ -66,7 +66,8 @@ pub record Profiling : Type 0 where
   pub form : ProfileForm
 
 -- what `hunt` runs: the image, the text of its range of seeds, or after how many seconds it takes no further seed, the sizes, the file of each
--- run's input, how many steps a run has at most, whether each is looked at for races, whether outcomes that differ in their output alone are one, the new disk or the folder that runs are kept on, and at most each how many seconds it tells how far it is
+-- run's input, how many steps a run has at most, whether each is looked at for races, whether outcomes that differ in their output alone are one, whether its table has each row, the new disk or the folder that runs are kept on, the file
+-- that has its table while it runs, and at most each how many seconds it tells how far it is
 pub record Hunting : Type 0 where
   pub image : Text
   pub seeds : Option Text
@@ -77,7 +78,9 @@ pub record Hunting : Type 0 where
   pub steps : ℕ
   pub races : Bool
   pub ignore_output : Bool
+  pub all_rows : Bool
   pub keep : Option Text
+  pub table : Option Text
   pub progress : Option ℕ
 
 -- what `drive` drives: which disk, the image that a missing one is made with, its sizes, the file of its input and where that goes on, the file
@@ -153,7 +156,9 @@ hunting_of h = record {
   steps = h.steps;
   races = h.races;
   ignore_output = h.ignore_output;
+  all_rows = h.all_rows;
   keep = option_map (λ path. path.now) h.keep;
+  table = option_map (λ path. path.now) h.table;
   progress = h.progress;
 }
 
@@ -289,7 +294,9 @@ hunting_in rows = do
     steps = steps;
     races = flag_in (codes "races") rows;
     ignore_output = flag_in (codes "ignore-output") rows;
+    all_rows = flag_in (codes "rows") rows;
     keep = first_of (codes "keep") rows;
+    table = first_of (codes "table") rows;
     progress = place_in (codes "progress") rows;
   })
 

@@ -380,7 +380,7 @@ fn profile_arguments<'a>(alloc: Global) -> Result<Vec<Arg<'a>>, AllocError>
     Ok(arguments)
 }
 
-/// `hunt IMAGE` with its options: which seeds, on what machine, with what input, how long a run is, whether it is looked at for races, whether outputs tell outcomes apart, where runs are kept, how often it tells how far it is, and where names are.
+/// `hunt IMAGE` with its options: which seeds, on what machine, with what input, how long a run is, whether it is looked at for races, whether outputs tell outcomes apart, which rows its table has, where runs are kept, where its table is, how often it tells how far it is, and where names are.
 fn hunt_command<'a>(alloc: Global) -> Result<Command<'a>, AllocError>
     ensures app { IfOk result (λ c. app_of c ≡ hunt_app) }
     ensures local { IfOk result (λ c. (out-Command c).has_globals ≡ false) }
@@ -447,11 +447,22 @@ fn hunt_arguments<'a>(alloc: Global) -> Result<Vec<Arg<'a>>, AllocError>
             "ignore-output",
             "Count outcomes that differ in their output alone as one"
         ),
+        flag(
+            alloc,
+            "rows",
+            "Tell each output of exit 0, where there are more than three, as tables have to be that are joined"
+        ),
         option(
             alloc,
             "keep",
             "DISK",
-            "A new disk for the run of the first seed, by a schedule of few switches, but with --races as it was drawn; FOLDER/ keeps each outcome in that folder"
+            "A new disk for a run that comes to what the first seed comes to, in few switches, but with --races as that was drawn; FOLDER/ keeps each outcome in that folder"
+        ),
+        option(
+            alloc,
+            "table",
+            "FILE",
+            "Have the table so far in this file while the hunt runs; not with --races"
         ),
         place(
             alloc,

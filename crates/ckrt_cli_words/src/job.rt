@@ -143,9 +143,13 @@ pub struct HuntJob<'a> {
     pub races: bool,
     /// Whether outcomes that differ in their output alone are one.
     pub ignore_output: bool,
+    /// Whether each row of the table has lines.
+    pub all_rows: bool,
     /// The path of the disk that is made for the run of the first seed, or, with a `/` at its end, of the folder in which each outcome
     /// gets a disk; this isn't given where none is kept.
     pub keep: Option<&'a str>,
+    /// The path of the file that has the table while the hunt runs; this isn't given where no file has it.
+    pub table: Option<&'a str>,
     /// How many seconds lie at least between two lines that tell how far it is; this isn't given where no line does.
     pub progress: Option<u64>,
 }

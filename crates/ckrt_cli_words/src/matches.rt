@@ -125,6 +125,7 @@ fn hunting<'a>(matches: &ArgMatches<'a>) -> Option<HuntJob<'a>>
 {
     let (seconds, progress) = (place(matches, "seconds"), place(matches, "progress"));
     let (input, keep) = (text(matches, "input"), text(matches, "keep"));
+    let table = text(matches, "table");
     Some(HuntJob {
         image: text(matches, "image")?,
         seeds: text(matches, "seeds"),
@@ -135,7 +136,9 @@ fn hunting<'a>(matches: &ArgMatches<'a>) -> Option<HuntJob<'a>>
         steps: number(matches, "steps")?,
         races: flag(matches, "races"),
         ignore_output: flag(matches, "ignore-output"),
+        all_rows: flag(matches, "rows"),
         keep,
+        table,
         progress,
     })
 }

@@ -79,6 +79,7 @@ fn count_runs<O: HuntOnlooker>(
     let (mut tally, mut outcomes, mut races) = nothing_counted(alloc)?;
     let seeds = hunt.note_seeds(&mut tally, &mut races, asked.seeds, asked.may_end, onlooker);
     outcomes.take(&mut tally);
+    onlooker.end_hunt(seeds, &outcomes);
     Ok(HuntTold {
         done: HuntDone { seeds, outcomes },
         races: Some(races),

@@ -7,7 +7,7 @@ use Rattle.std.specs.List.{flat_map}
 use Rattle.std.specs.Io.KnownBytes.{Appends}
 use Rattle.ckrt_hunt_schedules.specs.declared.row.Row.{Row}
 use Rattle.ckrt_hunt_schedules.specs.declared.table.Asked.{Asked}
-use Rattle.ckrt_hunt_schedules.specs.Table.{row_text, rows_text}
+use Rattle.ckrt_hunt_schedules.specs.Table.{rows_text, shown_text}
 
 -- nothing
 pub appends_none : (a : Option (List ℕ)) → Appends a a []
@@ -39,8 +39,8 @@ unfolding rows_text
 no_rows asked rows a = appends_none a
 
 -- one row more
-pub rows_more : (asked : Asked) (rows : List Row) (n m : ℕ) (r : Row) (a b c : Option (List ℕ)) → m ≡ suc n → slice_get rows n ≡ Some r → Appends a b (rows_text asked rows n) → Appends b c (row_text asked m r) → Appends a c (rows_text asked rows m)
+pub rows_more : (asked : Asked) (rows : List Row) (n m : ℕ) (r : Row) (a b c : Option (List ℕ)) → m ≡ suc n → slice_get rows n ≡ Some r → Appends a b (rows_text asked rows n) → Appends b c (shown_text asked rows m r) → Appends a c (rows_text asked rows m)
 unfolding rows_text
 rows_more asked rows n m r a b c e is p q =
-    let more : Appends b c (row_text asked (suc n) r) = subst (λ k. Appends b c (row_text asked k r)) e q in
-    rw (e, is) (appends_both a b c (rows_text asked rows n) (row_text asked (suc n) r) p more)
+    let more : Appends b c (shown_text asked rows (suc n) r) = subst (λ k. Appends b c (shown_text asked rows k r)) e q in
+    rw (e, is) (appends_both a b c (rows_text asked rows n) (shown_text asked rows (suc n) r) p more)

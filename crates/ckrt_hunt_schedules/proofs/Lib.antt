@@ -12,3 +12,4 @@ pub mod DiskLemmas
 mod NumberLemmas
 mod CircleLemmas
 pub mod TimeLemmas
+mod ShownLemmas

@@ -13,7 +13,7 @@ use Rattle.ckrt_hunt_schedules.specs.declared.seeds.Seeds.{Seeds}
 use Rattle.ckrt_hunt_schedules.specs.declared.tally.Tally.{Tally}
 use Rattle.ckrt_hunt_schedules.specs.declared.verdict.Verdict.TheVariants.{Several}
 use Rattle.ckrt_hunt_schedules.specs.Kinds.{kind_of, verdict_by, verdict_of, verdict_of_row}
-use Rattle.ckrt_hunt_schedules.specs.Tallies.{AreNoted, Grew, Hunted, IsNoted, IsNotedIn, IsTallyOf, SeedComesTo, first_row, group_of, one_more, others_of, plan_in, plus, rows_of, with_group}
+use Rattle.ckrt_hunt_schedules.specs.Tallies.{AreNoted, Grew, Hunted, IsNoted, IsNotedIn, IsTallyOf, SeedComesTo, counted_again, first_row, group_of, one_more, others_of, plan_in, plus, rows_of, with_group}
 use Rattle.ckrt_hunt_schedules.specs.Verdicts.{IsOneOfAll}
 use Rattle.ckrt_hunt_schedules.proofs.RunLemmas.{same_told}
 
@@ -57,13 +57,13 @@ at_set t (x ∷ xs) (suc k) r s g e = inr (at_set t xs k r s g e)
 module _ (seed : ℕ) (run : Finished) (old new : Group) where
   -- what was noted has a row, or there was none for it
   noted_here : IsNotedIn seed run old new → new.others ≡ 0 → IsIn run.told new.rows.items
-  noted_here (inl a) z = subst (IsIn run.told) (sym a.rows) (at_set run.told old.rows.items a.place a.row (record a.row { count = one_more a.row.count }) a.is_first.row a.is_first.same)
+  noted_here (inl a) z = subst (IsIn run.told) (sym a.rows) (at_set run.told old.rows.items a.place a.row (counted_again seed a.row) a.is_first.row a.is_first.same)
   noted_here (inr (inl g)) z = subst (IsIn run.told) (sym g.rows) (in_behind run.told old.rows.items (first_row seed run ∷ []) (inl refl))
   noted_here (inr (inr l)) z = let none : one_more old.others ≡ 0 = sym l.others ∙ z in absurd (grind (arith, none))
 
   -- and what had one has it
   stays : IsNotedIn seed run old new → (t : Told) → IsIn t old.rows.items → IsIn t new.rows.items
-  stays (inl a) t h = subst (IsIn t) (sym a.rows) (in_set t old.rows.items a.place a.row (record a.row { count = one_more a.row.count }) a.is_first.row refl h)
+  stays (inl a) t h = subst (IsIn t) (sym a.rows) (in_set t old.rows.items a.place a.row (counted_again seed a.row) a.is_first.row refl h)
   stays (inr (inl g)) t h = subst (IsIn t) (sym g.rows) (in_front t old.rows.items (first_row seed run ∷ []) h)
   stays (inr (inr l)) t h = subst (IsIn t) (sym l.rows) h
 

@@ -8,6 +8,7 @@ pub mod Kinds
 pub mod Runs
 pub mod Tallies
 pub mod Verdicts
+pub mod Shown
 pub mod Short
 pub mod Seeds
 pub mod Table

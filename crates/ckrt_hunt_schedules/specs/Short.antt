@@ -4,6 +4,7 @@ use Rattle.std.specs.Prelude.{◌≡◌, ◌≤◌, ℕ, length}
 use Rattle.ckrt_machine.specs.Steps.{State}
 use Rattle.ckrt_hunt_schedules.specs.declared.plan.Plan.{Plan}
 use Rattle.ckrt_hunt_schedules.specs.declared.runs.Told.{Told}
+use Rattle.ckrt_hunt_schedules.specs.declared.shorten.Chosen.{Chosen}
 use Rattle.ckrt_hunt_schedules.specs.declared.shorten.Found.{Found}
 use Rattle.ckrt_hunt_schedules.specs.Runs.{ComesTo, beginning, behind}
 use Rattle.ckrt_hunt_schedules.specs.Tallies.{Hunted, SeedComesTo, plan_in}
@@ -25,3 +26,15 @@ pub record IsFound (h : Hunted) (seed : ℕ) (found : Found) : Type 0 where
   pub drawn : HasSwitches (plan_in h seed) h.start found.drawn
   pub switches : HasSwitches found.plan h.start found.switches
   pub few : found.switches ≤ found.drawn
+
+-- what the first seed comes to, this one comes to
+abbrev pub ComesToTheSame : Hunted → (first seed : ℕ) → Type 0
+ComesToTheSame h first seed = (told : Told) → SeedComesTo h first told → SeedComesTo h seed told
+
+-- A seed was chosen for the outcome of the first one: a plan was found for it, with no more switches than one that was found for the first.
+pub record IsChosen (h : Hunted) (first : ℕ) (chosen : Chosen) : Type 0 where
+  pub same : ComesToTheSame h first chosen.seed
+  pub is_found : IsFound h chosen.seed chosen.found
+  pub own : Found
+  pub is_own : IsFound h first own
+  pub few : chosen.found.switches ≤ own.switches

@@ -1,6 +1,6 @@
 -- The table of a hunt (this project's own format): for each outcome a line that says how often it came, by which seed first, and what it is; one with
 -- the last line that the first seed's run put, but for `exit 0`; and one with the command that repeats it. They stand by their kinds, those that harm
--- first. An outcome has the number of its row, from 1 on.
+-- first. An outcome has the number of its row, from 1 on, though of many outputs of `exit 0` not each has lines.
 --
 --     outcome 1: 3 of 200 runs, first by seed 17: deadlock, thread 2 waits for mutex 00002c58 (thread 3 has it)
 --         said: 2 of 3 are done
@@ -11,6 +11,7 @@ use Rattle.hex.specs.Hex.{encode_lower}
 use Rattle.ckrt_rv32i.specs.Names.{cause_name}
 use Rattle.ckrt_inspect.specs.Texts.{hex_text}
 use Rattle.ckrt_hunt_schedules.specs.Kinds.{kind_of}
+use Rattle.ckrt_hunt_schedules.specs.Shown.{has_many, is_shown, total_of}
 use Rattle.ckrt_hunt_schedules.specs.declared.kind.Kind.{Kind}
 use Rattle.ckrt_hunt_schedules.specs.declared.kind.Kind.TheVariants as kind
 use Rattle.ckrt_hunt_schedules.specs.declared.last_line.LastLine.{LastLine}
@@ -21,6 +22,8 @@ use Rattle.ckrt_hunt_schedules.specs.declared.outcome.Outcome.TheVariants as out
 use Rattle.ckrt_hunt_schedules.specs.declared.outcome.Waiting.{Waiting}
 use Rattle.ckrt_hunt_schedules.specs.declared.row.Row.{Row}
 use Rattle.ckrt_hunt_schedules.specs.declared.shape.Shape.{Shape}
+use Rattle.ckrt_hunt_schedules.specs.declared.shown.Measure.TheVariants as measure
+use Rattle.ckrt_hunt_schedules.specs.declared.shorten.Chosen.{Chosen}
 use Rattle.ckrt_hunt_schedules.specs.declared.shorten.Found.{Found}
 use Rattle.ckrt_hunt_schedules.specs.declared.table.Asked.{Asked}
 use Rattle.ckrt_hunt_schedules.specs.declared.outcomes.Outcomes.{Outcomes}
@@ -139,14 +142,29 @@ row_text a number r = outcome_line a number r ++ said_line r ++ command_line a r
 
 -- THE TABLE
 
-abbrev pub row_text_at : Asked → (number : ℕ) → Option Row → List ℕ
-row_text_at a number None = []
-row_text_at a number (Some r) = row_text a number r
+-- a row among these that has lines
+abbrev pub shown_text : Asked → List Row → (number : ℕ) → Row → List ℕ
+shown_text a rows number r = if is_shown a.all_rows rows r then row_text a number r else []
+
+abbrev pub row_text_at : Asked → List Row → (number : ℕ) → Option Row → List ℕ
+row_text_at a rows number None = []
+row_text_at a rows number (Some r) = shown_text a rows number r
 
 -- the first n rows
 unfoldable pub rows_text : Asked → List Row → (n : ℕ) → List ℕ
 rows_text a rows zero = []
-rows_text a rows (suc n) = rows_text a rows n ++ row_text_at a (suc n) (slice_get rows n)
+rows_text a rows (suc n) = rows_text a rows n ++ row_text_at a rows (suc n) (slice_get rows n)
+
+-- how many outputs of `exit 0` there are, and how many runs had one of them, where not all have lines
+abbrev pub many_text : Asked → List Row → List ℕ
+many_text a rows =
+    (codes "outputs of exit 0: " ++ decimal (total_of measure.Outputs rows (length rows)))
+    ++ (codes " in " ++ decimal (total_of measure.Runs rows (length rows)))
+    ++ runs_text a
+    ++ codes ", the three commonest above\n"
+
+abbrev pub outputs_line : Asked → List Row → List ℕ
+outputs_line a rows = if has_many a.all_rows rows then many_text a rows else []
 
 -- the runs for whose outcomes there was no row left, if there are any
 abbrev pub others_line : Asked → (others : ℕ) → List ℕ
@@ -154,7 +172,8 @@ others_line a others =
     if others == 0 then [] else codes "other outcomes: " ++ decimal others ++ runs_text a ++ 10 ∷ []
 
 abbrev pub table_text : Asked → Outcomes → List ℕ
-table_text a o = rows_text a o.rows.items (length o.rows.items) ++ others_line a o.others
+table_text a o =
+    rows_text a o.rows.items (length o.rows.items) ++ outputs_line a o.rows.items ++ others_line a o.others
 
 -- of the seeds that were run
 abbrev pub done_text : Asked → HuntDone → List ℕ
@@ -162,7 +181,7 @@ done_text a done = table_text (record a { seeds = done.seeds }) done.outcomes
 
 -- A RUN THAT IS KEPT
 --
---     kept: the run of seed 17 on bugs/outcome-2.disk, switches: 4, drawn with 4123
+--     kept: the run of seed 17 on bugs/outcome-2.disk, switches: 4, drawn with 4123, fewest of 10 seeds
 
 -- how many switches it was drawn with, where it was shortened
 abbrev pub drawn_by : {A : Type 0} → (given : Option A) → (drawn : ℕ) → List ℕ
@@ -172,14 +191,21 @@ drawn_by (Some turns) drawn = codes ", drawn with " ++ decimal drawn
 abbrev pub drawn_text : Found → List ℕ
 drawn_text found = drawn_by found.plan.turns found.drawn
 
+-- among the runs of how many seeds it was chosen, where they are several
+abbrev pub fewest_text : (seeds : ℕ) → List ℕ
+fewest_text seeds =
+    if nat_le seeds 1 then [] else codes ", fewest of " ++ decimal seeds ++ codes " seeds"
+
 -- a seed behind a word, and the disk of its run
 abbrev pub placed_text : (word : List ℕ) → (seed : ℕ) → (path : List ℕ) → List ℕ
 placed_text word seed path = word ++ decimal seed ++ codes " on " ++ path
 
-abbrev pub kept_text : (seed : ℕ) → (path : List ℕ) → Found → List ℕ
-kept_text seed path found =
-    placed_text (codes "kept: the run of seed ") seed path ++ (codes ", switches: " ++ decimal found.switches)
-    ++ drawn_text found
+abbrev pub kept_text : (path : List ℕ) → Chosen → List ℕ
+kept_text path chosen =
+    placed_text (codes "kept: the run of seed ") chosen.seed path
+    ++ (codes ", switches: " ++ decimal chosen.found.switches)
+    ++ drawn_text chosen.found
+    ++ fewest_text chosen.seeds
     ++ 10 ∷ []
 
 -- one that isn't

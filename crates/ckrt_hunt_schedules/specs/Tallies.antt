@@ -1,6 +1,6 @@
 -- What seeds came to, counted (this project's choice): each outcome once, with how often it came, and the first seed that came to it. Each kind of
 -- outcomes has rows of its own.
-use Rattle.std.specs.Prelude.{◌≡◌, ◌≢◌, ◌≤◌, ◌<◌, ◌⊎◌, ℕ, zero, suc, ◌+◌, ◌-◌, ◌&&◌, Bool, nat_le, min, if◌then◌else◌, Option, Some, None, List, [], ◌∷◌, ◌++◌, length, slice_get, slice_set, vec_len}
+use Rattle.std.specs.Prelude.{◌≡◌, ◌≢◌, ◌≤◌, ◌<◌, ◌⊎◌, ℕ, zero, suc, ◌+◌, ◌-◌, ◌&&◌, Bool, nat_le, min, if◌then◌else◌, Option, Some, None, List, [], ◌∷◌, ◌++◌, length, slice_get, slice_set, replicate, take, vec_len}
 use Rattle.ckrt_memory.specs.Marks.{Memory}
 use Rattle.ckrt_state.specs.declared.table.Tables.{Tables}
 use Rattle.ckrt_machine.specs.Events.{fresh}
@@ -15,6 +15,7 @@ use Rattle.ckrt_hunt_schedules.specs.declared.outcomes.Outcomes.{Outcomes}
 use Rattle.ckrt_hunt_schedules.specs.declared.runs.Finished.{Finished}
 use Rattle.ckrt_hunt_schedules.specs.declared.runs.Told.{Told}
 use Rattle.ckrt_hunt_schedules.specs.declared.row.Row.{Row}
+use Rattle.ckrt_hunt_schedules.specs.declared.row.TheConstants.{LATER_SEEDS}
 use Rattle.ckrt_hunt_schedules.specs.declared.seeds.Seeds.{Seeds}
 use Rattle.ckrt_hunt_schedules.specs.declared.table.Asked.{Asked}
 use Rattle.ckrt_hunt_schedules.specs.declared.shape.Shape.{Shape}
@@ -31,7 +32,15 @@ one_more n = min (n + 1) 18446744073709551615
 
 -- the row of an outcome to which the run of this seed came first
 abbrev pub first_row : (seed : ℕ) → Finished → Row
-first_row seed run = record { told = run.told; said = run.said; count = 1; first = seed }
+first_row seed run = record { told = run.told; said = run.said; count = 1; first = seed; later = replicate LATER_SEEDS 0 }
+
+-- the same behind the run of one seed more, which is remembered where there is room
+abbrev pub counted_again : (seed : ℕ) → Row → Row
+counted_again seed r = record r { count = one_more r.count; later = slice_set r.later (r.count - 1) seed }
+
+-- the seeds that came to it next after the first one
+abbrev pub later_of : Row → List ℕ
+later_of r = take (r.count - 1) r.later
 
 -- none of the first k rows has the outcome
 abbrev pub HasNone : Told → List Row → (k : ℕ) → Type 0
@@ -51,11 +60,11 @@ pub record IsEmpty (g : Group) : Type 0 where
   pub others : g.others ≡ 0
 
 -- the outcome has a row, which counts it once more
-pub record CountsAgain (told : Told) (old new : Group) : Type 0 where
+pub record CountsAgain (seed : ℕ) (told : Told) (old new : Group) : Type 0 where
   pub place : ℕ
   pub row : Row
   pub is_first : IsFirst told old.rows.items place row
-  pub rows : new.rows.items ≡ slice_set old.rows.items place (record row { count = one_more row.count })
+  pub rows : new.rows.items ≡ slice_set old.rows.items place (counted_again seed row)
   pub others : new.others ≡ old.others
 
 -- it has none, and gets one
@@ -75,7 +84,7 @@ pub record LacksRow (told : Told) (old new : Group) : Type 0 where
 -- the run of one more seed was noted
 abbrev pub IsNotedIn : (seed : ℕ) → Finished → (old new : Group) → Type 0
 IsNotedIn seed run old new =
-    CountsAgain run.told old new ⊎ GetsRow seed run old new ⊎ LacksRow run.told old new
+    CountsAgain seed run.told old new ⊎ GetsRow seed run old new ⊎ LacksRow run.told old new
 
 -- THOSE OF ALL KINDS
 

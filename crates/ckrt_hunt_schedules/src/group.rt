@@ -2,7 +2,7 @@
 ghost use Rattle.std.specs.Prelude.{◌≡◌, ◌≤◌, vec_capacity, vec_len, IfOk};
 ghost use Rattle.ckrt_hunt_schedules.specs.declared.group.TheConstants.{GROUP_ROWS};
 
-use crate::row::{Row, count_again, place_of};
+use crate::row::{LATER_SEEDS, Row, count_again, place_of};
 use crate::runs::Finished;
 use std::alloc::{AllocError, Global};
 
@@ -36,13 +36,14 @@ impl Group {
         ensures { IsNotedIn seed run self.old self.new }
     {
         match place_of(self.rows.as_slice(), &run.told) {
-            Some(place) => count_again(self.rows.as_mut_slice(), place),
+            Some(place) => count_again(self.rows.as_mut_slice(), place, seed),
             None if self.rows.len() < GROUP_ROWS => {
                 let row = Row {
                     told: run.told,
                     said: run.said,
                     count: 1,
                     first: seed,
+                    later: [0; LATER_SEEDS],
                 };
                 let _ = self.rows.push(row);
             }

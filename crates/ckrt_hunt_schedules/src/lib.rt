@@ -2,6 +2,7 @@
 //! comes to is counted.
 #![tactic(auto)]
 
+mod copies;
 mod disks;
 mod drawn;
 mod given;
@@ -26,6 +27,7 @@ mod saying;
 mod seeds;
 mod shape;
 mod shorten;
+mod shown;
 mod table;
 mod tally;
 mod telling;
@@ -43,15 +45,16 @@ pub use kind::{Kind, kind_of};
 pub use last_line::{LINE_BYTES, LastLine};
 pub use laws::{one_outcome_is_of_all, seed_repeats, told_is_kept, told_is_kept_short};
 pub use made::{Lowered, Made};
-pub use onlooker::{HuntOnlooker, HuntWatch, is_over};
+pub use onlooker::{HuntOnlooker, HuntWatch, TableWatch, is_over};
 pub use outcome::{Awaited, Outcome, Waiting};
 pub use outcomes::{MOST_OUTCOMES, Outcomes};
 pub use plan::{Input, Plan};
-pub use row::Row;
+pub use row::{LATER_SEEDS, Row};
 pub use runs::{Finished, Told, run};
 pub use seeds::Seeds;
 pub use shape::Shape;
-pub use shorten::{Found, MOST_TRIES, Tries, as_drawn, room_for};
+pub use shorten::{Chosen, Found, MOST_TRIES, Tries, as_drawn, room_for};
+pub use shown::{Measure, has_many, is_shown, total_of};
 pub use table::{Asked, write_command_line, write_kept, write_runs, write_table, write_unkept};
 pub use tally::Tally;
 pub use telling::{HuntDone, HuntFault, hunt_and_tell, hunt_fault_of};

@@ -2,6 +2,7 @@
 ghost use Rattle.std.specs.Prelude.{◌≡◌, ◌≤◌, vec_capacity, IfOk};
 ghost use Rattle.ckrt_hunt_schedules.specs.declared.outcomes.TheConstants.{MOST_OUTCOMES};
 
+use crate::copies::copy_all;
 use crate::group::GROUP_ROWS;
 use crate::joining::append_all;
 use crate::kind::kind_of;
@@ -42,6 +43,15 @@ impl Outcomes {
     {
         self.others = tally.others();
         append_all(&mut self.rows, tally);
+    }
+
+    /// Takes copies of those of a tally, in place of what it has. It takes no memory.
+    pub fn copy(&mut self, tally: &Tally)
+        ensures { AreOutcomesOf tally.now self.new }
+    {
+        self.rows.clear();
+        self.others = tally.others();
+        copy_all(&mut self.rows, tally);
     }
 
     /// The outcomes.

@@ -21,8 +21,8 @@ impl Seeds {
         text.parse::<u64>().ok()
     }
 
-    /// The range with these ends.
-    fn range_of(first: u64, last: u64) -> Option<Seeds>
+    /// The range with these ends. None where the last is 2^64 - 1, or the first is above it.
+    pub fn range_of(first: u64, last: u64) -> Option<Seeds>
         ensures { option_map ends_of result ≡ range_of first last }
     {
         if first <= last && last < u64::MAX {

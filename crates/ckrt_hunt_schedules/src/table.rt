@@ -1,14 +1,15 @@
 //! What a hunt came to, as a table.
 ghost use Rattle.std.specs.Prelude.{◌≡◌, ◌+◌, ◌≤◌, ◌++◌, ◌∷◌, [], codes, decimal, length, OnOk};
 ghost use Rattle.std.specs.Io.KnownBytes.{Appends};
-ghost use Rattle.ckrt_hunt_schedules.specs.Table.{command_line, drawn_text, head_text, ignored_word, input_text, kept_text, outcome_line, others_line, placed_text, races_word, row_text, rows_text, runs_text, said_line, seed_text, shape_text, table_text, unkept_text};
+ghost use Rattle.ckrt_hunt_schedules.specs.Table.{command_line, drawn_text, fewest_text, head_text, ignored_word, input_text, kept_text, many_text, outcome_line, outputs_line, others_line, placed_text, races_word, row_text, rows_text, runs_text, said_line, seed_text, shape_text, shown_text, table_text, unkept_text};
 
 use crate::outcomes::Outcomes;
 use crate::row::Row;
 use crate::saying::write_said;
 use crate::seeds::Seeds;
 use crate::shape::Shape;
-use crate::shorten::Found;
+use crate::shorten::{Chosen, Found};
+use crate::shown::{Measure, has_many, is_shown, total_of};
 use crate::texts::{write_counted, write_digest, write_outcome};
 use std::io::{Result, Write};
 
@@ -25,6 +26,8 @@ pub struct Asked<'a> {
     pub input: Option<&'a str>,
     /// Whether each run is looked at for races too.
     pub races: bool,
+    /// Whether each row of its table has lines.
+    pub all_rows: bool,
 }
 
 /// Writes of how many runs. It takes no memory.
@@ -162,16 +165,65 @@ fn write_row<W: Write>(out: &mut W, asked: &Asked<'_>, number: u64, row: &Row) -
     write_command_line(out, asked, row.first)
 }
 
-/// The lines of all rows.
+/// The lines of a row among these, where it has lines.
+#[tactic(auto, using(crate::proofs::AppendLemmas::appends_none))]
+fn write_if_shown<W: Write>(
+    out: &mut W,
+    asked: &Asked<'_>,
+    rows: &[Row],
+    number: u64,
+    row: &Row,
+) -> Result<()>
+    ensures { OnOk result
+        (Appends (W.contents out.old) (W.contents out.new)
+        (shown_text asked.now rows.now number row.now)) }
+{
+    if is_shown(asked.all_rows, rows, row) {
+        write_row(out, asked, number, row)
+    } else {
+        Ok(())
+    }
+}
+
+/// The lines of all rows that have some.
 fn write_rows<W: Write>(out: &mut W, asked: &Asked<'_>, rows: &[Row]) -> Result<()>
     ensures { OnOk result
         (Appends (W.contents out.old) (W.contents out.new)
         (rows_text asked.now rows.now (length rows.now))) }
 {
     for place in 0..rows.len() {
-        write_row(out, asked, place as u64 + 1, &rows[place])?;
+        write_if_shown(out, asked, rows, place as u64 + 1, &rows[place])?;
     }
     Ok(())
+}
+
+/// How many outputs of `exit 0` there are, of how many runs.
+#[tactic(auto, using(crate::proofs::AppendLemmas::appends_both))]
+fn write_many<W: Write>(out: &mut W, asked: &Asked<'_>, rows: &[Row]) -> Result<()>
+    ensures { OnOk result
+        (Appends (W.contents out.old) (W.contents out.new) (many_text asked.now rows.now)) }
+{
+    write_counted(
+        out,
+        b"outputs of exit 0: ",
+        total_of(Measure::Outputs, rows),
+    )?;
+    write_counted(out, b" in ", total_of(Measure::Runs, rows))?;
+    write_runs(out, asked)?;
+    out.write_all(b", the three commonest above\n")
+}
+
+/// The same, where not all have lines.
+#[tactic(auto, using(crate::proofs::AppendLemmas::appends_none))]
+fn write_outputs<W: Write>(out: &mut W, asked: &Asked<'_>, rows: &[Row]) -> Result<()>
+    ensures { OnOk result
+        (Appends (W.contents out.old) (W.contents out.new) (outputs_line asked.now rows.now)) }
+{
+    if has_many(asked.all_rows, rows) {
+        write_many(out, asked, rows)
+    } else {
+        Ok(())
+    }
 }
 
 /// The line of the runs that no row counts.
@@ -199,13 +251,15 @@ fn write_others<W: Write>(out: &mut W, asked: &Asked<'_>, others: u64) -> Result
 }
 
 /// Writes what a hunt came to: for each outcome, those that harm first, how often it came, the first seed that came to it, what
-/// it is, what it said, and the command that repeats it. A number of the outcome stands before it, from 1 on. It takes no memory.
+/// it is, what it said, and the command that repeats it. A number of the outcome stands before it, from 1 on. Of more than three outputs
+/// of `exit 0` the three commonest have lines, unless each row is asked for. It takes no memory.
 #[tactic(auto, using(crate::proofs::AppendLemmas::appends_both))]
 pub fn write_table<W: Write>(out: &mut W, asked: &Asked<'_>, outcomes: &Outcomes) -> Result<()>
     ensures { OnOk result
         (Appends (W.contents out.old) (W.contents out.new) (table_text asked.now outcomes.now)) }
 {
     write_rows(out, asked, outcomes.rows())?;
+    write_outputs(out, asked, outcomes.rows())?;
     write_others(out, asked, outcomes.others())
 }
 
@@ -249,14 +303,38 @@ pub fn write_unkept<W: Write>(out: &mut W, seed: u64, path: &str) -> Result<()>
     out.write_all(b"\n")
 }
 
-/// Writes which seed's run is kept, on the disk of which path, how many switches it has, and how many it was drawn with: a
-/// switch is a thread that runs after another one. It takes no memory.
-pub fn write_kept<W: Write>(out: &mut W, seed: u64, path: &str, found: &Found<'_>) -> Result<()>
+/// Among the runs of how many seeds a run was chosen, where they are several.
+#[tactic(auto, using(crate::proofs::AppendLemmas::appends_none))]
+fn write_fewest<W: Write>(out: &mut W, seeds: u32) -> Result<()>
     ensures { OnOk result
-        (Appends (W.contents out.old) (W.contents out.new) (kept_text seed path.now found.now)) }
+        (Appends (W.contents out.old) (W.contents out.new) (fewest_text seeds)) }
 {
-    write_placed(out, b"kept: the run of seed ", seed, path)?;
-    write_switches(out, b", switches: ", found.switches)?;
-    write_drawn(out, found)?;
+    if seeds <= 1 {
+        Ok(())
+    } else {
+        write_many_seeds(out, seeds)
+    }
+}
+
+/// The same of several.
+fn write_many_seeds<W: Write>(out: &mut W, seeds: u32) -> Result<()>
+    ensures { OnOk result
+        (Appends (W.contents out.old) (W.contents out.new)
+        (codes ", fewest of " ++ decimal seeds ++ codes " seeds")) }
+{
+    write_switches(out, b", fewest of ", seeds)?;
+    out.write_all(b" seeds")
+}
+
+/// Writes which seed's run is kept, on the disk of which path, how many switches it has, how many it was drawn with, and of how many seeds
+/// that is the fewest: a switch is a thread that runs after another one. It takes no memory.
+pub fn write_kept<W: Write>(out: &mut W, path: &str, chosen: &Chosen<'_>) -> Result<()>
+    ensures { OnOk result
+        (Appends (W.contents out.old) (W.contents out.new) (kept_text path.now chosen.now)) }
+{
+    write_placed(out, b"kept: the run of seed ", chosen.seed, path)?;
+    write_switches(out, b", switches: ", chosen.found.switches)?;
+    write_drawn(out, &chosen.found)?;
+    write_fewest(out, chosen.seeds)?;
     out.write_all(b"\n")
 }

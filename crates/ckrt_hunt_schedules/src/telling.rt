@@ -60,6 +60,7 @@ fn hunt_seeds<O: HuntOnlooker>(
     let mut outcomes = Outcomes::new(alloc)?;
     let seeds = hunt.note_seeds(&mut tally, asked.seeds, asked.may_end, onlooker);
     outcomes.take(&mut tally);
+    onlooker.end_hunt(seeds, &outcomes);
     Ok(HuntDone { seeds, outcomes })
 }
 

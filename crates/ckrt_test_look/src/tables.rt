@@ -11,6 +11,7 @@ use ckrt_hunt_schedules::{
     Outcomes, Seeds, Shape, Tally, Told, Verdict, Waiting, hunt_and_tell, write_table,
 };
 use ckrt_rv32i::Cause;
+use std::alloc::Global;
 use std::process::Abort;
 
 /// Texts, and the ends of the ranges that they name.
@@ -188,6 +189,7 @@ fn asked_for(first: u64, last: u64) -> Asked<'static>
         may_end: false,
         input: None,
         races: false,
+        all_rows: false,
     }
 }
 
@@ -263,6 +265,72 @@ fn each_kind_has_rows_of_its_own(rt: HostRuntime) {
     expect_eq(&rt, outcomes.rows().len(), 65);
     let table = table_of(&rt, &outcomes);
     expect_eq(&rt, table.as_slice().starts_with(LATE), true);
+}
+
+/// A tally of five outputs of `exit 0`, which came once, once, twice, three times and once, in this order, and of another status.
+fn tally_of_outputs<R: Abort + AllocGlobal>(rt: &R) -> Tally {
+    let mut tally = empty_tally(rt);
+    let mut seed = 0u64;
+    for byte in *b"abcddcde" {
+        seed = seed.saturating_add(1);
+        note(&mut tally, seed, Outcome::Exited(0), Some([byte; 32]));
+    }
+    note(&mut tally, 9, Outcome::Exited(3), Some([3; 32]));
+    tally
+}
+
+const OUTPUTS: &[u8] = b"\
+outcome 1: 1 of 200 runs, first by seed 9: exit 3, output 03030303
+    ckrt hunt race.bin --seeds 9-9 --pages 16 --harts 2 --steps 10000 --keep seed-9.disk
+outcome 2: 1 of 200 runs, first by seed 1: exit 0, output 61616161
+    ckrt hunt race.bin --seeds 1-1 --pages 16 --harts 2 --steps 10000 --keep seed-1.disk
+outcome 4: 2 of 200 runs, first by seed 3: exit 0, output 63636363
+    ckrt hunt race.bin --seeds 3-3 --pages 16 --harts 2 --steps 10000 --keep seed-3.disk
+outcome 5: 3 of 200 runs, first by seed 4: exit 0, output 64646464
+    ckrt hunt race.bin --seeds 4-4 --pages 16 --harts 2 --steps 10000 --keep seed-4.disk
+outputs of exit 0: 5 in 8 of 200 runs, the three commonest above
+";
+
+#[test]
+fn the_commonest_of_many_outputs_are_told(rt: HostRuntime) {
+    let mut tally = tally_of_outputs(&rt);
+    let mut copied = outcomes_in(&rt, &mut tally_of_each(&rt));
+    copied.copy(&tally);
+    expect_eq(&rt, table_of(&rt, &copied).as_slice(), OUTPUTS);
+    let outcomes = outcomes_in(&rt, &mut tally);
+    expect_eq(&rt, table_of(&rt, &outcomes).as_slice(), OUTPUTS);
+    expect_eq(&rt, outcomes.rows()[4].later(), [5, 7].as_slice());
+    expect_eq(&rt, outcomes.rows()[5].later(), [].as_slice());
+}
+
+#[test]
+fn each_output_is_told_where_that_is_asked_for(rt: HostRuntime) {
+    let outcomes = outcomes_in(&rt, &mut tally_of_outputs(&rt));
+    let asked = Asked {
+        all_rows: true,
+        ..asked_for(1, 200)
+    };
+    let mut table = Vec::new(rt.alloc());
+    assert!(rt; write_table(&mut table, &asked, &outcomes).is_ok());
+    let end =
+        b"    ckrt hunt race.bin --seeds 8-8 --pages 16 --harts 2 --steps 10000 --keep seed-8.disk\n";
+    expect_eq(&rt, table.as_slice().ends_with(end), true);
+}
+
+#[test]
+fn ten_seeds_of_an_outcome_are_remembered(rt: HostRuntime) {
+    let mut tally = empty_tally(&rt);
+    for seed in 5..20 {
+        note(&mut tally, seed, Outcome::WaitsForInput, None);
+    }
+    let outcomes = outcomes_in(&rt, &mut tally);
+    let row = &outcomes.rows()[0];
+    expect_eq(&rt, (row.count, row.first), (15, 5));
+    expect_eq(
+        &rt,
+        row.later(),
+        [6, 7, 8, 9, 10, 11, 12, 13, 14].as_slice(),
+    );
 }
 
 /// What two runs come to together.
@@ -364,11 +432,13 @@ struct Patience {
 impl HuntOnlooker for Patience {
     ghost Answers = { λ _ _. Unit {0} };
 
-    fn begin_hunt(&mut self, _watch: HuntWatch) {}
+    fn begin_hunt(&mut self, _alloc: Global, _watch: HuntWatch<'_>) {}
 
     fn has_time(&mut self, seed: u64, _tally: &Tally) -> bool {
         seed < self.last
     }
+
+    fn end_hunt(&mut self, _seeds: Seeds, _outcomes: &Outcomes) {}
 }
 
 /// What is printed of a hunt of the seeds 5 to 14, by an onlooker who has time up to seed 7.

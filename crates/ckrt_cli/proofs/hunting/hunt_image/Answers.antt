@@ -20,8 +20,8 @@ returns-in-Ok g c =
     let old = reached (g.S.Closes.openings c.args.sources.now) table in
     let new = reached (g.S.Closes.openings c.keep_if_asked-kept.new.sources) (g.W.Write.contents c.keep_if_asked-kept.new.writer) in
     let path = option_map (λ p. p.now) job.keep in
-    let by_rows = subst (λ (rows : List Row). KeepsAt g.D.Disk (sought_by (hunted_of guest asked.shape input) asked.seeds.first asked.races c.config_of.result guest (λ p. fills p (size_needed c.config_of.result))) old new kept (place_of path rows)) c.rows.ensures c.keep_if_asked-kept.ensures in
-    let keeps = subst (λ (config : Config). KeepsAt g.D.Disk (sought_by (hunted_of guest asked.shape input) asked.seeds.first asked.races config guest (λ p. fills p (size_needed config))) old new kept (place_of path c.in-Ok.told.done.outcomes.rows.items)) c.config_of.ensures by_rows in
+    let by_rows = subst (λ (rows : List Row). KeepsAt g.D.Disk (sought_by (hunted_of guest asked.shape input) asked.seeds.first asked.races c.config_of.result guest (λ p. fills p (size_needed c.config_of.result))) old new kept (place_of path asked.all_rows rows)) c.rows.ensures c.keep_if_asked-kept.ensures in
+    let keeps = subst (λ (config : Config). KeepsAt g.D.Disk (sought_by (hunted_of guest asked.shape input) asked.seeds.first asked.races config guest (λ p. fills p (size_needed config))) old new kept (place_of path asked.all_rows c.in-Ok.told.done.outcomes.rows.items)) c.config_of.ensures by_rows in
     record {
       hunts = (
         Ok c.in-Ok.told,

@@ -13,8 +13,8 @@ returns-then-is_folder g c =
     let old = reached (g.S.Closes.openings c.args.sources.now) (g.W.Write.contents c.args.writer.now) in
     let new = reached (g.S.Closes.openings c.keep_in_folder.new.sources) (g.W.Write.contents c.keep_in_folder.new.writer) in
     let there : is_folder path ≡ true = sym c.is_folder.ensures ∙ c.if-is_folder.true in
-    let at : place_of (Some path) rows ≡ in_folder (record { path = path; rows = rows }) = ap (λ b. cond b (in_folder (record { path = path; rows = rows })) (on_disk path)) there in
-    subst (λ o. KeepsAt g.D.Disk sought old new c.keep_in_folder.result (place_of (option_map (λ p. p.now) o) rows)) (sym c.in-Some.is)
+    let at : place_of (Some path) told.all_rows rows ≡ in_folder (record { path = path; rows = rows; all_rows = told.all_rows }) = ap (λ b. cond b (in_folder (record { path = path; rows = rows; all_rows = told.all_rows })) (on_disk path)) there in
+    subst (λ o. KeepsAt g.D.Disk sought old new c.keep_in_folder.result (place_of (option_map (λ p. p.now) o) told.all_rows rows)) (sym c.in-Some.is)
     (subst (λ (p : Place). KeepsAt g.D.Disk sought old new c.keep_in_folder.result p) (sym at) c.keep_in_folder.ensures)
 
 -- on the disk
@@ -27,6 +27,6 @@ returns-else-is_folder g c =
     let old = reached (g.S.Closes.openings c.args.sources.now) (g.W.Write.contents c.args.writer.now) in
     let new = reached (g.S.Closes.openings c.keep_first.new.sources) (g.W.Write.contents c.keep_first.new.writer) in
     let there : is_folder path ≡ false = sym c.is_folder.ensures ∙ c.if-is_folder.false in
-    let at : place_of (Some path) rows ≡ on_disk path = ap (λ b. cond b (in_folder (record { path = path; rows = rows })) (on_disk path)) there in
-    subst (λ o. KeepsAt g.D.Disk sought old new c.keep_first.result (place_of (option_map (λ p. p.now) o) rows)) (sym c.in-Some.is)
+    let at : place_of (Some path) told.all_rows rows ≡ on_disk path = ap (λ b. cond b (in_folder (record { path = path; rows = rows; all_rows = told.all_rows })) (on_disk path)) there in
+    subst (λ o. KeepsAt g.D.Disk sought old new c.keep_first.result (place_of (option_map (λ p. p.now) o) told.all_rows rows)) (sym c.in-Some.is)
     (subst (λ (p : Place). KeepsAt g.D.Disk sought old new c.keep_first.result p) (sym at) c.keep_first.ensures)

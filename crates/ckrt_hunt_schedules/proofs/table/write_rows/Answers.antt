@@ -15,4 +15,4 @@ loop-place-preserved g c =
     let n = c.loop-place.place in
     let r = c.index-rows-place.result in
     let there : slice_get rows n ≡ Some r = slice_get-get_or rows n r c.loop-place-test.true ∙ ap Some (sym c.index-rows-place.is) in
-    rows_more c.args.asked.now rows n (n + 1) r (has c.args.out.now) (has c.loop-place.out) (has c.write_row.new.out) (omega arith) there c.loop-place.invariant c.in_ok-write_row.ensures
+    rows_more c.args.asked.now rows n (n + 1) r (has c.args.out.now) (has c.loop-place.out) (has c.write_if_shown.new.out) (omega arith) there c.loop-place.invariant c.in_ok-write_if_shown.ensures

@@ -4,7 +4,7 @@ use Rattle.ckrt_hunt_schedules.specs.Short.{Repeats}
 use Rattle.ckrt_hunt_schedules.specs.Tallies.{Hunted, plan_in}
 use Rattle.ckrt_hunt_schedules.specs.declared.plan.Plan.{Plan}
 use Rattle.ckrt_hunt_schedules.proofs.ShortLemmas.{repeats, repeats_itself, switches_of}
-use Rattle.ckrt_hunt_schedules.proofs.shorten.Tries.found.Goals as goal
+use Rattle.ckrt_hunt_schedules.proofs.shorten.found_by.Goals as goal
 
 -- the plan with the turns comes to the same
 pub returns-then-is_as_good-clause-found : goal.returns-then-is_as_good-clause-found
