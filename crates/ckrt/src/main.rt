@@ -5,6 +5,7 @@
 mod asked;
 mod beside;
 mod giving;
+mod rules;
 mod threads;
 
 use asked::{form_of, names_asked};
@@ -15,7 +16,9 @@ use ckrt_cli_names::{Form, NamedWriter, Names, Unflushed};
 use ckrt_cli_reports::{SystemMeter, WrittenReport};
 use ckrt_cli_words::{Job, read_names, read_words};
 use ckrt_disk::Calls;
+use ckrt_look_callers::Rule;
 use giving::Giving;
+use rules::rules_for;
 use std::cell::Cell;
 use std::env;
 use std::io::{self, ErrorKind, Write};
@@ -30,6 +33,7 @@ fn run<'a>(
     why: &'a Cell<OutputReason>,
     (printed, form): (Names, Form),
     reported: Names,
+    rules: &[Rule],
 ) -> u8 {
     let told = ToldWriter::new(io::writer(rt), why);
     let mut writer = NamedWriter::in_form(rt.alloc(), printed, form, told);
@@ -38,6 +42,7 @@ fn run<'a>(
     let status = run_words::<HostRuntime, Brand, _, _, _, _>(
         rt.alloc(),
         words,
+        rules,
         &mut SystemSources::new(rt, why, Calls::new()),
         &mut rt.reader(),
         &mut writer,
@@ -53,7 +58,7 @@ fn run<'a>(
 fn run_plain<'a>(rt: &'a HostRuntime, words: &'a [&'a str], why: &'a Cell<OutputReason>) -> u8 {
     let alloc = rt.alloc();
     let printed = (Names::none(alloc), Form::Notes);
-    run(rt, words, why, printed, Names::none(alloc))
+    run(rt, words, why, printed, Names::none(alloc), &[])
 }
 
 /// Says why names can't be used; the answer is the program's status.
@@ -62,6 +67,12 @@ fn refuse(rt: &HostRuntime, refusal: Refusal<'_>) -> u8 {
     let text = trouble.text();
     let name = trouble.name();
     let _ = eprintln!(rt; "the names {path}.names: {text}\nckrt: {name}");
+    1
+}
+
+/// Says that memory was refused; the answer is the program's status.
+fn refuse_memory(rt: &HostRuntime) -> u8 {
+    let _ = eprintln!(rt; "the system refused memory\nckrt: OutOfMemory");
     1
 }
 
@@ -84,11 +95,21 @@ fn run_with<'a>(
         let text = trouble.text();
         let _ = eprintln!(rt; "the names {path}.names: {text}; this goes on without them");
     }
+    let Ok(rules) = rules_for(rt.alloc(), job, &printed) else {
+        return refuse_memory(rt);
+    };
     let giving = match gift {
         Some(bytes) => Giving::begin(rt, rt.alloc(), job, bytes).ok(),
         None => None,
     };
-    let status = run(rt, words, why, (printed, form_of(job)), reported);
+    let status = run(
+        rt,
+        words,
+        why,
+        (printed, form_of(job)),
+        reported,
+        rules.as_slice(),
+    );
     if let Some(giving) = giving {
         let _ = giving.end(rt, job, status);
     }
