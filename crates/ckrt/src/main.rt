@@ -6,6 +6,7 @@ mod asked;
 mod beside;
 mod giving;
 mod kept;
+mod rules;
 mod threads;
 
 use asked::{form_of, names_asked};
@@ -16,8 +17,10 @@ use ckrt_cli_names::{Form, NamedWriter, Names};
 use ckrt_cli_reports::{SystemMeter, WrittenReport};
 use ckrt_cli_words::{Job, read_names, read_words};
 use ckrt_disk::Calls;
+use ckrt_look_callers::Rule;
 use giving::Giving;
 use kept::KeptWriter;
+use rules::rules_for;
 use std::cell::Cell;
 use std::env;
 use std::io::{self, ErrorKind, Write};
@@ -25,12 +28,14 @@ use std::marker::Brand;
 use std::process::ExitCode;
 use threads::{tell_driven, tell_looked_at};
 
-/// What a job is done with: its words, a place for why an output failed, and where it is known the job.
+/// What a job is done with: its words, a place for why an output failed, where it is known the job, and the rules by which it finds
+/// callers.
 #[derive(Clone, Copy)]
 struct Task<'a, 'j> {
     words: &'a [&'a str],
     why: &'a Cell<OutputReason>,
     job: Option<&'j Job<'a>>,
+    rules: &'j [Rule],
 }
 
 /// Writes what was reported on standard error, with its names. Of a drive the line of its end tells the threads of its disk.
@@ -71,6 +76,7 @@ fn run<'a>(
     let status = run_words::<HostRuntime, Brand, _, _, _, _>(
         rt.alloc(),
         task.words,
+        task.rules,
         &mut SystemSources::new(rt, task.why, Calls::new()),
         &mut rt.reader(),
         &mut writer,
@@ -90,6 +96,7 @@ fn run_plain<'a>(rt: &'a HostRuntime, words: &'a [&'a str], why: &'a Cell<Output
         words,
         why,
         job: None,
+        rules: &[],
     };
     run(rt, task, printed, Names::none(alloc))
 }
@@ -100,6 +107,12 @@ fn refuse(rt: &HostRuntime, refusal: Refusal<'_>) -> u8 {
     let text = trouble.text();
     let name = trouble.name();
     let _ = eprintln!(rt; "the names {path}.names: {text}\nckrt: {name}");
+    1
+}
+
+/// Says that memory was refused; the answer is the program's status.
+fn refuse_memory(rt: &HostRuntime) -> u8 {
+    let _ = eprintln!(rt; "the system refused memory\nckrt: OutOfMemory");
     1
 }
 
@@ -122,6 +135,9 @@ fn run_with<'a>(
         let text = trouble.text();
         let _ = eprintln!(rt; "the names {path}.names: {text}; this goes on without them");
     }
+    let Ok(rules) = rules_for(rt.alloc(), job, &printed) else {
+        return refuse_memory(rt);
+    };
     let giving = match gift {
         Some(bytes) => Giving::begin(rt, rt.alloc(), job, bytes).ok(),
         None => None,
@@ -130,6 +146,7 @@ fn run_with<'a>(
         words,
         why,
         job: Some(job),
+        rules: rules.as_slice(),
     };
     let status = run(rt, task, (printed, form_of(job)), reported);
     if let Some(giving) = giving {

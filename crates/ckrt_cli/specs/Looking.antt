@@ -1,10 +1,11 @@
 -- Looking at a stretch of what a disk has recorded: what is told of it is written as a text.
-use Rattle.std.specs.Prelude.{◌≡◌, ◌⊎◌, ℕ, nat_lt, Bool, true, false, Option, Some, Result, Ok, Err}
+use Rattle.std.specs.Prelude.{◌≡◌, ◌⊎◌, ℕ, nat_lt, Bool, true, false, List, Option, Some, Result, Ok, Err}
 use Rattle.ckrt_disk.specs.Frame.{IsOnlyRead}
 use Rattle.ckrt_disk.specs.declared.disk.Disk.{Ghosts}
 use Rattle.ckrt_inspect.specs.Inspect.{is_device}
 use Rattle.ckrt_inspect.specs.declared.fault.InspectFault.{InspectFault}
 use Rattle.ckrt_inspect.specs.declared.fault.InspectFault.TheVariants.{Range}
+use Rattle.ckrt_look_callers.specs.declared.rule.Rule.{Rule}
 use Rattle.ckrt_look_calls.specs.Recorded.{AreLines}
 use Rattle.ckrt_look_calls.specs.Stretches.{Account, TellsStretch}
 use Rattle.ckrt_look_calls.specs.declared.stretch.Stretch.{Stretch}
@@ -85,10 +86,11 @@ abbrev pub TracesPath : {D : Type 0} → Ghosts D → (D → Type 0) → DiskStr
     → (old new : Outside D) → Result (Unit {0}) JobFault → Type 0
 TracesPath d Opens s old new result = LooksPath d (sight s Opens AreLines) old new result
 
--- `races`: its data races, a line for each pair of places
-abbrev pub RacesPath : {D : Type 0} → Ghosts D → (D → Type 0) → DiskStretch
+-- `races`: its data races, a line for each pair of places, with what is told of both accesses by these rules
+abbrev pub RacesPath : {D : Type 0} → Ghosts D → (D → Type 0) → List Rule → DiskStretch
     → (old new : Outside D) → Result (Unit {0}) JobFault → Type 0
-RacesPath d Opens s old new result = LooksPath d (sight s Opens IsRacesText) old new result
+RacesPath d Opens rules s old new result =
+    LooksPath d (sight s Opens (IsRacesText rules)) old new result
 
 -- `timeline`: what its threads did, as trace events with `--json`, else as a picture
 abbrev pub form_of : Bool → Form

@@ -26,6 +26,7 @@ use Rattle.ckrt_cli_reports.specs.Lines.{ReportsOutcome, ReportsWords, SaysLine,
 use Rattle.ckrt_cli_disk.specs.Showing.{Shows, shown_of}
 use Rattle.ckrt_hunt_schedules.specs.declared.verdict.Verdict.{Verdict}
 use Rattle.ckrt_hunt_schedules.specs.declared.verdict.Verdict.TheVariants as verdict
+use Rattle.ckrt_look_callers.specs.declared.rule.Rule.{Rule}
 use Rattle.ckrt_cli.specs.Looking.{ProfilesPath, RacesPath, TimelinePath, TracesPath}
 use Rattle.ckrt_cli.specs.Debugging.{DebugsPath}
 use Rattle.ckrt_cli.specs.Hunting.{Hunter, HuntsPath, kept_size}
@@ -63,7 +64,7 @@ CONFIG = record { pages = 16; harts = 1; journal = 4096 }
 -- THE OUTSIDE
 
 -- What the program can reach: its stream, and what a writer holds; the bytes of an image, by its path; the disks of a path, and those once what is shorter
--- is filled up to so many bytes; and what else its sources may give.
+-- is filled up to so many bytes; and what else its sources may give. And the rules by which it finds callers.
 pub record Reach {D : Type 0} (d : Ghosts D) (W : Type 0) : Type 1 where
   pub stream : Ghosts (StreamOutput W)
   pub contents : W → Option (List ℕ)
@@ -71,17 +72,19 @@ pub record Reach {D : Type 0} (d : Ghosts D) (W : Type 0) : Type 1 where
   pub Opens : List ℕ → D → Type 0
   pub Fills : List ℕ → ℕ → D → Type 0
   pub others : Gives D
+  pub rules : List Rule
 
 -- of files of the system: each was opened as this and of this path
 abbrev pub real_files : {H W : Type 0} {g : Files (RealFile H)} {d : Ghosts (FileDisk (RealFile H) g)}
-    → Ghosts (StreamOutput W) → (W → Option (List ℕ)) → Reach d W
-real_files {d = d} stream contents = record {
+    → Ghosts (StreamOutput W) → (W → Option (List ℕ)) → List Rule → Reach d W
+real_files {d = d} stream contents rules = record {
   stream = stream;
   contents = contents;
   images = λ _. None;
   Opens = λ path disk. IsDiskOf d path disk;
   Fills = λ path _ disk. IsFilledOf d path disk;
   others = real_gives d;
+  rules = rules;
 }
 
 -- What a reporter said: all before, and all behind it, where these are known, and whether it has failed.
@@ -222,7 +225,7 @@ Performs {d = d} it (calls s) old new outcome =
 Performs {d = d} it (debug j) old new outcome =
     Does outcome_without_end (DebugsPath d (it.Opens j.disk) j old new) outcome
 Performs {d = d} it (races s) old new outcome =
-    Does outcome_without_end (RacesPath d (it.Opens s.disk) s old new) outcome
+    Does outcome_without_end (RacesPath d (it.Opens s.disk) it.rules s old new) outcome
 Performs {d = d} it (timeline j) old new outcome =
     Does outcome_without_end (TimelinePath d (it.Opens j.stretch.disk) j old new) outcome
 Performs {d = d} it (profile p) old new outcome =

@@ -18,6 +18,7 @@ use ckrt_cli_words::{FormatJob, InspectJob, Job, read_words};
 use ckrt_disk::{Disk, Holds};
 use ckrt_drive::StreamOutput;
 use ckrt_hunt_schedules::{HuntOnlooker, Verdict};
+use ckrt_look_callers::Rule;
 use ckrt_main::serve_image;
 use ckrt_recovery::Config;
 use std::alloc::Global;
@@ -189,6 +190,7 @@ fn perform<
 >(
     alloc: Global,
     job: &Job<'a>,
+    rules: &[Rule],
     sources: &mut S,
     reader: &mut R,
     writer: &mut W,
@@ -201,6 +203,7 @@ fn perform<
       Opens = S.opens sources.old;
       Fills = S.fills sources.old;
       others = S.gives sources.old;
+      rules = rules.now;
     })
         (request_of job.now)
         (outside (S.openings sources.old) (W.contents writer.old) (R.remaining reader.old))
@@ -218,7 +221,9 @@ fn perform<
         Job::Debug(job) => {
             without_end(debug_path::<I, D, S, R, W>(alloc, job, sources, reader, writer))
         }
-        Job::Races(job) => without_end(races_path::<I, D, S, W>(alloc, job, sources, writer)),
+        Job::Races(job) => {
+            without_end(races_path::<I, D, S, W>(alloc, job, rules, sources, writer))
+        }
         Job::Timeline(job) => {
             without_end(timeline_path::<I, D, S, W>(alloc, job, sources, writer))
         }
@@ -234,7 +239,7 @@ fn perform<
 
 /// Does what the words after the program's name ask for, with images and disks of any sources: `format DISK IMAGE` prints
 /// `formatted SIZE`, `run DISK` answers the lines of the reader, `inspect DISK` shows what the disk holds, `core DISK FILE`
-/// writes it as a core into FILE, `calls DISK` tells its calls, `debug DISK` serves it to gdb, `races DISK` tells its data races, `profile DISK` where its
+/// writes it as a core into FILE, `calls DISK` tells its calls, `debug DISK` serves it to gdb, `races DISK` tells its data races, with callers by these rules, `profile DISK` where its
 /// steps went, `timeline DISK` draws what its threads did, `hunt IMAGE` tells what other schedules come to, `drive DISK`
 /// runs its program to its end, with its output in a file or printed, and reports what it came to in a line, `--version`
 /// prints the version and its kit, no words serve the stored program in memory. Of a fault two lines are reported: what is
@@ -256,6 +261,7 @@ pub fn run_words_with<
 >(
     alloc: Global,
     words: &'a [&'a str],
+    rules: &[Rule],
     sources: &mut S,
     reader: &mut R,
     writer: &mut W,
@@ -282,6 +288,7 @@ pub fn run_words_with<
       Opens = S.opens sources.old;
       Fills = S.fills sources.old;
       others = S.gives sources.old;
+      rules = rules.now;
     })
         (map (λ s. s.now) words.entry.now)
         (outside (S.openings sources.old) (W.contents writer.old) (R.remaining reader.old))
@@ -295,7 +302,9 @@ pub fn run_words_with<
 {
     match read_words(alloc, words) {
         Ok(job) => {
-            let outcome = perform::<I, D, S, R, W, M>(alloc, &job, sources, reader, writer, meter);
+            let outcome = perform::<I, D, S, R, W, M>(
+                alloc, &job, rules, sources, reader, writer, meter,
+            );
             report(reporter, &job, outcome)
         }
         Err(fault) => report_words(reporter, fault),
@@ -316,6 +325,7 @@ pub fn run_words<
 >(
     alloc: Global,
     words: &'a [&'a str],
+    rules: &[Rule],
     sources: &mut SystemSources<'a, F, RealDisk<'a, H>>,
     reader: &mut R,
     writer: &mut W,
@@ -336,7 +346,8 @@ pub fn run_words<
         → takes ckrt_app (map (λ s. s.now) words.entry.now) ≢ true }
     ensures stored { result ≡ 2 → words.entry.now ≢ [] }
     ensures outcome { RunsWords {d = ⟦<RealDisk<'a, H> as Disk>⟧}
-        (real_files ⟦<StreamOutput<'a, W> as Disk>⟧ W.contents) (map (λ s. s.now) words.entry.now)
+        (real_files ⟦<StreamOutput<'a, W> as Disk>⟧ W.contents rules.now)
+        (map (λ s. s.now) words.entry.now)
         (outside (openings_of sources.old) (W.contents writer.old) (R.remaining reader.old))
         (outside (openings_of sources.new) (W.contents writer.new) (R.remaining reader.new))
         (record {
@@ -347,6 +358,6 @@ pub fn run_words<
         result }
 {
     run_words_with::<File, RealDisk<'a, H>, SystemSources<'a, F, RealDisk<'a, H>>, R, W, E, M>(
-        alloc, words, sources, reader, writer, reporter, meter,
+        alloc, words, rules, sources, reader, writer, reporter, meter,
     )
 }

@@ -11,19 +11,23 @@ use ckrt_cli_words::StretchJob;
 use ckrt_disk::Disk;
 use ckrt_events::Event;
 use ckrt_inspect::InspectFault;
+use ckrt_look_callers::Rule;
 use ckrt_look_calls::Telling;
 use ckrt_look_races::write_races;
 use ckrt_machine::Machine;
 use std::alloc::Global;
 use std::io::{Read, Write};
 
-/// Its data races, a line for each pair of places.
-struct Races;
+/// Its data races, a line for each pair of places, with what is told of both accesses. Callers are found by rules.
+#[derive(Clone, Copy)]
+struct Races<'a> {
+    rules: &'a [Rule],
+}
 
-impl Telling for Races {
+impl Telling for Races<'_> {
     ghost use Rattle.ckrt_look_races.specs.Recorded.{IsRacesText};
 
-    ghost Tells = { λ _. IsRacesText };
+    ghost Tells = { λ r. IsRacesText r.rules.now };
 
     fn tell<W: Write>(
         &self,
@@ -33,12 +37,12 @@ impl Telling for Races {
         events: &[Event],
         out: &mut W,
     ) -> Result<(), InspectFault> {
-        write_races(alloc, machine, count, events, out)
+        write_races(alloc, machine, count, events, self.rules, out)
     }
 }
 
-/// Tells the data races of what the disk of a path has recorded, a line for each pair of places: of all, or of the events behind so
-/// many and up to so many. The disk is only read.
+/// Tells the data races of what the disk of a path has recorded, a line for each pair of places, with what is told of both accesses: of
+/// all, or of the events behind so many and up to so many. Callers are found by rules. The disk is only read.
 ///
 /// # Errors
 ///
@@ -46,13 +50,14 @@ impl Telling for Races {
 pub fn races_path<'a, I: Read, D: Disk, S: Sources<'a, I, D>, W: Write>(
     alloc: Global,
     job: &StretchJob<'a>,
+    rules: &[Rule],
     sources: &mut S,
     writer: &mut W,
 ) -> Result<(), JobFault>
     ensures races { (left : Option (List ℕ))
-        → RacesPath D.Disk (S.opens sources.old job.now.disk.now) (disk_stretch_of job.now)
+        → RacesPath D.Disk (S.opens sources.old job.now.disk.now) rules.now (disk_stretch_of job.now)
         (outside (S.openings sources.old) (W.contents writer.old) left)
         (outside (S.openings sources.new) (W.contents writer.new) left) result }
 {
-    look_path::<I, D, S, Races, W>(alloc, job, &Races, sources, writer)
+    look_path::<I, D, S, Races, W>(alloc, job, &Races { rules }, sources, writer)
 }

@@ -1,6 +1,7 @@
 //! Names of a guest's source beside the addresses in lines that are printed, or in their place.
 #![tactic(auto)]
 
+mod callers;
 mod fault;
 mod follower;
 mod labels;

@@ -72,6 +72,12 @@ caller_of bytes rule frame = do
     frame_pointer = pointer;
   })
 
+-- the caller of a frame by the first rule that is of its place, whoever's code it is
+abbrev pub next_frame : List Rule → List ℕ → Frame → Option Frame
+next_frame rules bytes frame = do
+  rule ← rule_at rules frame.place
+  caller_of bytes rule frame
+
 -- from a frame of the kit to its callers, so many at most, up to the first that isn't the kit's
 abbrev pub call_within : ℕ → List Stretch → List Rule → List ℕ → Frame → Option Call
 call_within zero kit rules bytes frame = None

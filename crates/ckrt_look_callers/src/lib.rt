@@ -4,12 +4,14 @@
 //! kit's ([`Stretch`]). Nothing here takes memory.
 #![tactic(auto)]
 
+mod callers;
 mod frame;
 mod name;
 mod rule;
 mod walk;
 mod word;
 
+pub use callers::caller_of;
 pub use frame::Frame;
 pub use name::name_of;
 pub use rule::{Base, Rule, Saved, Stretch};

@@ -3,6 +3,7 @@ use Rattle.std.proofs.Common.{◌≡◌, ◌≤◌, ◌<◌, ℕ, zero, suc, ◌
 use Rattle.std.proofs.lemmas.Bool.Decides.{nat_tests}
 use Rattle.std.specs.List.{AllByRecursion, list_any}
 use Rattle.ckrt_look_clocks.specs.declared.operation.Access.{Access}
+use Rattle.ckrt_look_clocks.specs.declared.operation.Block.{Block}
 use Rattle.ckrt_look_clocks.specs.declared.operation.Operation.{Operation}
 use Rattle.ckrt_look_clocks.specs.declared.operation.Operation.TheVariants as operation
 use Rattle.ckrt_look_clocks.specs.declared.operation.TheConstants.{THREADS}
@@ -10,7 +11,7 @@ use Rattle.ckrt_look_clocks.specs.declared.shadow.Cell.{Cell}
 use Rattle.ckrt_look_clocks.specs.declared.pair.Pair.{Pair}
 use Rattle.ckrt_look_clocks.specs.declared.pair.TheConstants.{PAIRS}
 use Rattle.ckrt_look_clocks.specs.Histories.{History, IsRace, conflict, op_at}
-use Rattle.ckrt_look_clocks.specs.Detection.{Found, access_at, compared, compared_all, compared_stores, counted, few_words, first_pair, is_at, is_by, is_repeated, kept, knows, no_accesses, noted, one_more, races, renewed, stored, watched, with_load, with_pair, word_of}
+use Rattle.ckrt_look_clocks.specs.Detection.{Found, access_at, compared, compared_all, compared_stores, counted, few_words, first_pair, given_with, is_at, is_by, is_repeated, kept, knows, no_accesses, noted, one_more, races, renewed, stored, watched, with_load, with_pair, word_of}
 use Rattle.ckrt_look_clocks.specs.Laws.{ClocksAreExact, IsOrderly, IsRaceOf, OnlyRacesAreFound}
 use Rattle.ckrt_look_clocks.proofs.ListLemmas.{chosen, passed_over}
 use Rattle.ckrt_look_clocks.proofs.SeenLemmas.{Tell, op_stays, tells}
@@ -110,15 +111,15 @@ all_more : {X : Type 0} (P : X → Type 0) (xs : List X) (x : X) → AllByRecurs
 all_more P [] x all p = (p, tt)
 all_more P (y ∷ ys) x all p = (all.0, all_more P ys x all.1 p)
 
-all_with_pair : (past : History) (a b : Access) (f : Found) (t : Bool) → nat_lt (length f.pairs) PAIRS ≡ t → AllByRecursion (IsRaceOf past) f.pairs → IsRace past a b → AllByRecursion (IsRaceOf past) (with_pair a b f).pairs
-all_with_pair past a b f true e all race = subst (λ (g : Found). AllByRecursion (IsRaceOf past) g.pairs) (sym (chosen (nat_lt (length f.pairs) PAIRS) (record f { pairs = f.pairs ++ first_pair a b ∷ [] }) (record f { others = one_more f.others }) e))
-    (all_more (IsRaceOf past) f.pairs (first_pair a b) all race)
-all_with_pair past a b f false e all race = subst (λ (g : Found). AllByRecursion (IsRaceOf past) g.pairs) (sym (passed_over (nat_lt (length f.pairs) PAIRS) (record f { pairs = f.pairs ++ first_pair a b ∷ [] }) (record f { others = one_more f.others }) e)) all
+all_with_pair : (block : Option Block) (past : History) (a b : Access) (f : Found) (t : Bool) → nat_lt (length f.pairs) PAIRS ≡ t → AllByRecursion (IsRaceOf past) f.pairs → IsRace past a b → AllByRecursion (IsRaceOf past) (with_pair block a b f).pairs
+all_with_pair block past a b f true e all race = subst (λ (g : Found). AllByRecursion (IsRaceOf past) g.pairs) (sym (chosen (nat_lt (length f.pairs) PAIRS) (record f { pairs = f.pairs ++ first_pair block a b ∷ [] }) (record f { others = one_more f.others }) e))
+    (all_more (IsRaceOf past) f.pairs (first_pair block a b) all race)
+all_with_pair block past a b f false e all race = subst (λ (g : Found). AllByRecursion (IsRaceOf past) g.pairs) (sym (passed_over (nat_lt (length f.pairs) PAIRS) (record f { pairs = f.pairs ++ first_pair block a b ∷ [] }) (record f { others = one_more f.others }) e)) all
 
-all_noted : (past : History) (a b : Access) (f : Found) (t : Bool) → list_any (is_at a b) f.pairs ≡ t → AllByRecursion (IsRaceOf past) f.pairs → IsRace past a b → AllByRecursion (IsRaceOf past) (noted a b f).pairs
-all_noted past a b f true e all race = subst (λ (g : Found). AllByRecursion (IsRaceOf past) g.pairs) (sym (chosen (list_any (is_at a b) f.pairs) (record f { pairs = counted a b f.pairs }) (with_pair a b f) e)) (all_counted past a b f.pairs all)
-all_noted past a b f false e all race = subst (λ (g : Found). AllByRecursion (IsRaceOf past) g.pairs) (sym (passed_over (list_any (is_at a b) f.pairs) (record f { pairs = counted a b f.pairs }) (with_pair a b f) e))
-    (all_with_pair past a b f (nat_lt (length f.pairs) PAIRS) refl all race)
+all_noted : (block : Option Block) (past : History) (a b : Access) (f : Found) (t : Bool) → list_any (is_at a b) f.pairs ≡ t → AllByRecursion (IsRaceOf past) f.pairs → IsRace past a b → AllByRecursion (IsRaceOf past) (noted block a b f).pairs
+all_noted block past a b f true e all race = subst (λ (g : Found). AllByRecursion (IsRaceOf past) g.pairs) (sym (chosen (list_any (is_at a b) f.pairs) (record f { pairs = counted a b f.pairs }) (with_pair block a b f) e)) (all_counted past a b f.pairs all)
+all_noted block past a b f false e all race = subst (λ (g : Found). AllByRecursion (IsRaceOf past) g.pairs) (sym (passed_over (list_any (is_at a b) f.pairs) (record f { pairs = counted a b f.pairs }) (with_pair block a b f) e))
+    (all_with_pair block past a b f (nat_lt (length f.pairs) PAIRS) refl all race)
 
 -- of an access that is the last operation
 module _ (n words : ℕ) (past : History) (b : Access) (told : Tell n words past) (is_thread : b.thread < n) where
@@ -142,40 +143,40 @@ module _ (n words : ℕ) (past : History) (b : Access) (told : Tell n words past
     unseen = told.exact b.thread was.0 a is_thread was.1 ∙ and_second (conflict a b) (knows (watched past n words).clocks b.thread a) e;
   }
 
-  all_compared_by : (a : Access) (f : Found) (t : Bool) → races (watched past n words).clocks b a ≡ t → WasAccess past (Some a) → AllByRecursion (IsRaceOf (operation.Access b ∷ past)) f.pairs
-      → AllByRecursion (IsRaceOf (operation.Access b ∷ past)) (compared (watched past n words).clocks b (Some a) f).pairs
-  all_compared_by a f true e was all = subst (λ (g : Found). AllByRecursion (IsRaceOf (operation.Access b ∷ past)) g.pairs) (sym (chosen (races (watched past n words).clocks b a) (noted a b f) f e))
-      (all_noted (operation.Access b ∷ past) a b f (list_any (is_at a b) f.pairs) refl all (is_race a was e))
-  all_compared_by a f false e was all = subst (λ (g : Found). AllByRecursion (IsRaceOf (operation.Access b ∷ past)) g.pairs) (sym (passed_over (races (watched past n words).clocks b a) (noted a b f) f e)) all
+  all_compared_by : (block : Option Block) (a : Access) (f : Found) (t : Bool) → races (watched past n words).clocks b a ≡ t → WasAccess past (Some a) → AllByRecursion (IsRaceOf (operation.Access b ∷ past)) f.pairs
+      → AllByRecursion (IsRaceOf (operation.Access b ∷ past)) (compared block (watched past n words).clocks b (Some a) f).pairs
+  all_compared_by block a f true e was all = subst (λ (g : Found). AllByRecursion (IsRaceOf (operation.Access b ∷ past)) g.pairs) (sym (chosen (races (watched past n words).clocks b a) (noted block a b f) f e))
+      (all_noted block (operation.Access b ∷ past) a b f (list_any (is_at a b) f.pairs) refl all (is_race a was e))
+  all_compared_by block a f false e was all = subst (λ (g : Found). AllByRecursion (IsRaceOf (operation.Access b ∷ past)) g.pairs) (sym (passed_over (races (watched past n words).clocks b a) (noted block a b f) f e)) all
 
-  all_compared : (o : Option Access) (f : Found) → WasAccess past o → AllByRecursion (IsRaceOf (operation.Access b ∷ past)) f.pairs
-      → AllByRecursion (IsRaceOf (operation.Access b ∷ past)) (compared (watched past n words).clocks b o f).pairs
-  all_compared None f was all = all
-  all_compared (Some a) f was all = all_compared_by a f (races (watched past n words).clocks b a) refl was all
+  all_compared : (block : Option Block) (o : Option Access) (f : Found) → WasAccess past o → AllByRecursion (IsRaceOf (operation.Access b ∷ past)) f.pairs
+      → AllByRecursion (IsRaceOf (operation.Access b ∷ past)) (compared block (watched past n words).clocks b o f).pairs
+  all_compared block None f was all = all
+  all_compared block (Some a) f was all = all_compared_by block a f (races (watched past n words).clocks b a) refl was all
 
-  all_by_repeats : (k : ℕ) (stores : List (Option Access)) (f : Found) (t : Bool) → is_repeated k stores ≡ t → AllByRecursion (WasAccess past) stores
-      → AllByRecursion (IsRaceOf (operation.Access b ∷ past)) (compared_stores k (watched past n words).clocks b stores f).pairs
-      → AllByRecursion (IsRaceOf (operation.Access b ∷ past)) (compared_stores (suc k) (watched past n words).clocks b stores f).pairs
-  all_by_repeats k stores f true e were all = (let clocks = (watched past n words).clocks in
+  all_by_repeats : (block : Option Block) (k : ℕ) (stores : List (Option Access)) (f : Found) (t : Bool) → is_repeated k stores ≡ t → AllByRecursion (WasAccess past) stores
+      → AllByRecursion (IsRaceOf (operation.Access b ∷ past)) (compared_stores k block (watched past n words).clocks b stores f).pairs
+      → AllByRecursion (IsRaceOf (operation.Access b ∷ past)) (compared_stores (suc k) block (watched past n words).clocks b stores f).pairs
+  all_by_repeats block k stores f true e were all = (let clocks = (watched past n words).clocks in
       subst (λ (g : Found). AllByRecursion (IsRaceOf (operation.Access b ∷ past)) g.pairs)
-      (sym (chosen (is_repeated k stores) (compared_stores k clocks b stores f) (compared clocks b (get_or stores k None) (compared_stores k clocks b stores f)) e)) all)
-  all_by_repeats k stores f false e were all = (let clocks = (watched past n words).clocks in
+      (sym (chosen (is_repeated k stores) (compared_stores k block clocks b stores f) (compared block clocks b (get_or stores k None) (compared_stores k block clocks b stores f)) e)) all)
+  all_by_repeats block k stores f false e were all = (let clocks = (watched past n words).clocks in
       subst (λ (g : Found). AllByRecursion (IsRaceOf (operation.Access b ∷ past)) g.pairs)
-      (sym (passed_over (is_repeated k stores) (compared_stores k clocks b stores f) (compared clocks b (get_or stores k None) (compared_stores k clocks b stores f)) e))
-      (all_compared (get_or stores k None) (compared_stores k clocks b stores f) (was_at past stores k were) all))
+      (sym (passed_over (is_repeated k stores) (compared_stores k block clocks b stores f) (compared block clocks b (get_or stores k None) (compared_stores k block clocks b stores f)) e))
+      (all_compared block (get_or stores k None) (compared_stores k block clocks b stores f) (was_at past stores k were) all))
 
-  all_of_stores : (k : ℕ) (stores : List (Option Access)) (f : Found) → AllByRecursion (WasAccess past) stores → AllByRecursion (IsRaceOf (operation.Access b ∷ past)) f.pairs
-      → AllByRecursion (IsRaceOf (operation.Access b ∷ past)) (compared_stores k (watched past n words).clocks b stores f).pairs
-  all_of_stores zero stores f were all = all
-  all_of_stores (suc k) stores f were all = all_by_repeats k stores f (is_repeated k stores) refl were (all_of_stores k stores f were all)
+  all_of_stores : (block : Option Block) (k : ℕ) (stores : List (Option Access)) (f : Found) → AllByRecursion (WasAccess past) stores → AllByRecursion (IsRaceOf (operation.Access b ∷ past)) f.pairs
+      → AllByRecursion (IsRaceOf (operation.Access b ∷ past)) (compared_stores k block (watched past n words).clocks b stores f).pairs
+  all_of_stores block zero stores f were all = all
+  all_of_stores block (suc k) stores f were all = all_by_repeats block k stores f (is_repeated k stores) refl were (all_of_stores block k stores f were all)
 
   all_of_cell : (c : Cell) (f : Found) → AreAccesses past c → AllByRecursion (IsRaceOf (operation.Access b ∷ past)) f.pairs
       → AllByRecursion (IsRaceOf (operation.Access b ∷ past)) (compared_all (watched past n words).clocks b c f).pairs
   all_of_cell c f are all =
       let clocks = (watched past n words).clocks in
-      let behind_stores = compared_stores (length c.stores) clocks b c.stores f in
-      all_compared c.other (compared clocks b c.load behind_stores) are.other
-      (all_compared c.load behind_stores are.load (all_of_stores (length c.stores) c.stores f are.stores all))
+      let behind_stores = compared_stores (length c.stores) c.block clocks b c.stores f in
+      all_compared c.block c.other (compared c.block clocks b c.load behind_stores) are.other
+      (all_compared c.block c.load behind_stores are.load (all_of_stores c.block (length c.stores) c.stores f are.stores all))
 
 -- OPERATION BY OPERATION
 
@@ -186,10 +187,13 @@ pub record AreRaces (n words : ℕ) (past : History) : Type 0 where
 nothing_kept : (past : History) → AreAccesses past no_accesses
 nothing_kept past = record { stores = (tt, (tt, (tt, (tt, tt)))); load = tt; other = tt }
 
-all_renewed : (past : History) (count first : ℕ) (shadow : List Cell) → AllByRecursion (AreAccesses past) shadow → AllByRecursion (AreAccesses past) (renewed count first shadow)
-all_renewed past zero first shadow all = all
-all_renewed past (suc n) first shadow all =
-    all_set (AreAccesses past) (renewed n first shadow) (first + n) no_accesses (all_renewed past n first shadow all) (nothing_kept past)
+nothing_given : (past : History) (block : Block) → AreAccesses past (given_with block)
+nothing_given past block = record { stores = (tt, (tt, (tt, (tt, tt)))); load = tt; other = tt }
+
+all_renewed : (past : History) (n : ℕ) (block : Block) (shadow : List Cell) → AllByRecursion (AreAccesses past) shadow → AllByRecursion (AreAccesses past) (renewed n block shadow)
+all_renewed past zero block shadow all = all
+all_renewed past (suc n) block shadow all =
+    all_set (AreAccesses past) (renewed n block shadow) (block.first + n) (given_with block) (all_renewed past n block shadow all) (nothing_given past block)
 
 none_kept : (words : ℕ) → AllByRecursion (AreAccesses []) (replicate words no_accesses)
 none_kept zero = tt
@@ -219,12 +223,12 @@ are_races n words (operation.Pass from to p ∷ past) all orderly =
       shadow = all_stay past (operation.Pass from to p) (watched past n words).shadow are.shadow;
       pairs = all_go_on past (operation.Pass from to p) (watched past n words).found.pairs are.pairs;
     }
-are_races n words (operation.Renew first count p ∷ past) all orderly =
+are_races n words (operation.Renew m ∷ past) all orderly =
     let are = are_races n words past all orderly.0 in
-    let q = operation.Renew first count p in
+    let q = operation.Renew m in
     let shadow = (watched past n words).shadow in
     record {
-      shadow = all_renewed (q ∷ past) (few_words first count shadow) first shadow (all_stay past q shadow are.shadow);
+      shadow = all_renewed (q ∷ past) (few_words m shadow) m shadow (all_stay past q shadow are.shadow);
       pairs = all_go_on past q (watched past n words).found.pairs are.pairs;
     }
 

@@ -2,6 +2,7 @@
 use Rattle.std.proofs.Common.{◌≡◌, ◌≢◌, ◌≤◌, ◌<◌, ℕ, suc, ◌+◌, max, nat_lt, ◌==◌, ◌||◌, ◌&&◌, Bool, true, false, List, [], ◌∷◌, length, slice_get, Option, Some, None, refl, sym, ap, ◌∙◌, subst, arith}
 use Rattle.ckrt_look_clocks.specs.declared.operation.Place.{Place}
 use Rattle.ckrt_look_clocks.specs.declared.operation.Access.{Access}
+use Rattle.ckrt_look_clocks.specs.declared.operation.Block.{Block}
 use Rattle.ckrt_look_clocks.specs.declared.operation.Operation.{Operation}
 use Rattle.ckrt_look_clocks.specs.declared.operation.Operation.TheVariants as operation
 use Rattle.ckrt_look_clocks.specs.declared.operation.TheConstants.{THREADS}
@@ -65,7 +66,7 @@ pub seen_below : (past : History) (h i : ℕ) → seen past h i ≡ true → i <
 seen_below [] h i is = absurd (cc)
 seen_below (operation.Access a ∷ past) h i is = below_access (h == a.thread) (i == length past) (seen past h i) i (length past) (is_same i (length past)) (seen_below past h i) is
 seen_below (operation.Pass from to p ∷ past) h i is = below_pass (seen past h i) (h == to) (seen past from i) i (length past) (seen_below past h i) (seen_below past from i) is
-seen_below (operation.Renew first count p ∷ past) h i is = omega (arith, seen_below past h i is)
+seen_below (operation.Renew m ∷ past) h i is = omega (arith, seen_below past h i is)
 
 unseen_yet : (past : History) (h i : ℕ) → i ≡ length past → seen past h i ≡ false
 unseen_yet past h i is = go (seen past h i) refl
@@ -217,11 +218,11 @@ module _ (n words : ℕ) (past : History) (from to : ℕ) (p : Place) (told : Te
   }
 
 -- memory that is given anew
-module _ (n words : ℕ) (past : History) (first count : ℕ) (p : Place) (told : Tell n words past) (rises : next_moment past ≤ moment p) where
-  earlier_than : (i : ℕ) (a : Access) → op_at (operation.Renew first count p ∷ past) i ≡ Some (operation.Access a) → op_at past i ≡ Some (operation.Access a)
-  earlier_than i a is = op_case past (operation.Renew first count p) (operation.Access a) i is (λ e same. absurd (cc)) (λ e rest. rest)
+module _ (n words : ℕ) (past : History) (m : Block) (told : Tell n words past) (rises : next_moment past ≤ moment m.place) where
+  earlier_than : (i : ℕ) (a : Access) → op_at (operation.Renew m ∷ past) i ≡ Some (operation.Access a) → op_at past i ≡ Some (operation.Access a)
+  earlier_than i a is = op_case past (operation.Renew m) (operation.Access a) i is (λ e same. absurd (cc)) (λ e rest. rest)
 
-  tell_renewal : Tell n words (operation.Renew first count p ∷ past)
+  tell_renewal : Tell n words (operation.Renew m ∷ past)
   tell_renewal = record {
     clocks = told.clocks;
     low = λ h u. omega (arith, told.low h u, rises);
@@ -234,4 +235,4 @@ pub tells : (n words : ℕ) (past : History) → IsOrderly n past → Tell n wor
 tells n words [] orderly = tell_nothing n words
 tells n words (operation.Access b ∷ past) orderly = tell_access n words past b (tells n words past orderly.0) orderly.1 orderly.2
 tells n words (operation.Pass from to p ∷ past) orderly = tell_pass n words past from to p (tells n words past orderly.0) orderly.1.0 orderly.1.1 orderly.2
-tells n words (operation.Renew first count p ∷ past) orderly = tell_renewal n words past first count p (tells n words past orderly.0) orderly.2
+tells n words (operation.Renew m ∷ past) orderly = tell_renewal n words past m (tells n words past orderly.0) orderly.2

@@ -4,6 +4,7 @@ use Rattle.std.specs.Prelude.{ℕ, zero, suc, ◌+◌, ◌-◌, ◌/◌, ◌%◌
 use Rattle.std.specs.List.{list_any}
 use Rattle.ckrt_look_clocks.specs.declared.operation.Place.{Place}
 use Rattle.ckrt_look_clocks.specs.declared.operation.Access.{Access}
+use Rattle.ckrt_look_clocks.specs.declared.operation.Block.{Block}
 use Rattle.ckrt_look_clocks.specs.declared.operation.Operation.{Operation}
 use Rattle.ckrt_look_clocks.specs.declared.operation.Operation.TheVariants as operation
 use Rattle.ckrt_look_clocks.specs.declared.operation.TheConstants.{THREADS}
@@ -51,7 +52,8 @@ abbrev pub knows : List Clock → ℕ → Access → Bool
 knows clocks t a =
     t == a.thread || is_before a.place (get_or (clock_of t clocks).seen a.thread nothing)
 
--- THE SHADOW of a word of memory: the last store to each of its bytes, and the last loads of the two threads that loaded it last
+-- THE SHADOW of a word of memory: the last store to each of its bytes, the last loads of the two threads that loaded it last, and the
+-- memory given anew that it was in last
 
 -- n bytes of a word, from this one on, have this as their last store; bytes that the word hasn't got are passed over
 abbrev pub stored : (n first : ℕ) → Access → List (Option Access) → List (Option Access)
@@ -72,7 +74,8 @@ kept a c =
     if a.is_store then record c { stores = stored a.size (a.address % 4) a c.stores }
     else with_load a c
 
--- WHAT WAS FOUND: pairs of places in the program, each with the first two accesses there that race, and how often
+-- WHAT WAS FOUND: pairs of places in the program, each with the first two accesses there that race, how often, and the memory given
+-- anew last that has the word of both
 
 pub record Found : Type 0 where
   pub pairs : List Pair
@@ -99,27 +102,27 @@ counted a b [] = []
 counted a b (p ∷ ps) =
     if is_at a b p then record p { count = one_more p.count } ∷ ps else p ∷ counted a b ps
 
-abbrev pub first_pair : Access → Access → Pair
-first_pair a b = record { first = a; second = b; count = 1 }
+abbrev pub first_pair : Option Block → Access → Access → Pair
+first_pair m a b = record { first = a; second = b; count = 1; block = m }
 
 -- a pair of places gets a row as long as there is one left
-abbrev pub with_pair : Access → Access → Found → Found
-with_pair a b f =
-    if nat_lt (length f.pairs) PAIRS then record f { pairs = f.pairs ++ first_pair a b ∷ [] }
+abbrev pub with_pair : Option Block → Access → Access → Found → Found
+with_pair m a b f =
+    if nat_lt (length f.pairs) PAIRS then record f { pairs = f.pairs ++ first_pair m a b ∷ [] }
     else record f { others = one_more f.others }
 
-abbrev pub noted : Access → Access → Found → Found
-noted a b f =
+abbrev pub noted : Option Block → Access → Access → Found → Found
+noted m a b f =
     if list_any (is_at a b) f.pairs then record f { pairs = counted a b f.pairs }
-    else with_pair a b f
+    else with_pair m a b f
 
 -- an access races with one that was kept: they conflict, and its thread hasn't seen that
 abbrev pub races : List Clock → Access → Access → Bool
 races clocks b a = conflict a b && not (knows clocks b.thread a)
 
-abbrev pub compared : List Clock → Access → Option Access → Found → Found
-compared clocks b None f = f
-compared clocks b (Some a) f = if races clocks b a then noted a b f else f
+abbrev pub compared : Option Block → List Clock → Access → Option Access → Found → Found
+compared m clocks b None f = f
+compared m clocks b (Some a) f = if races clocks b a then noted m a b f else f
 
 -- two bytes have the same last store: an access has its place alone
 abbrev pub is_same : Option Access → Option Access → Bool
@@ -132,17 +135,19 @@ abbrev pub is_repeated : (byte : ℕ) → List (Option Access) → Bool
 is_repeated k stores = list_any (is_same (get_or stores k None)) (take k stores)
 
 -- an access is compared with the last stores of the first n bytes by rising address, with each store once
-abbrev pub compared_stores : ℕ → List Clock → Access → List (Option Access) → Found → Found
-compared_stores zero clocks b stores f = f
-compared_stores (suc k) clocks b stores f =
-    if is_repeated k stores then compared_stores k clocks b stores f
-    else compared clocks b (get_or stores k None) (compared_stores k clocks b stores f)
+abbrev pub compared_stores : ℕ → Option Block → List Clock → Access → List (Option Access) → Found
+    → Found
+compared_stores zero m clocks b stores f = f
+compared_stores (suc k) m clocks b stores f =
+    if is_repeated k stores then compared_stores k m clocks b stores f
+    else compared m clocks b (get_or stores k None) (compared_stores k m clocks b stores f)
 
 -- with the stores first, then with the last load, then with the other one
 abbrev pub compared_all : List Clock → Access → Cell → Found → Found
 compared_all clocks b c f =
-    compared clocks b c.other
-    (compared clocks b c.load (compared_stores (length c.stores) clocks b c.stores f))
+    compared c.block clocks b c.other
+    (compared c.block clocks b c.load
+    (compared_stores (length c.stores) c.block clocks b c.stores f))
 
 -- OPERATION BY OPERATION
 
@@ -165,26 +170,29 @@ access_at a (Some c) w = record {
 }
 
 abbrev pub no_accesses : Cell
-no_accesses = record { stores = replicate 4 None; load = None; other = None }
+no_accesses = record { stores = replicate 4 None; load = None; other = None; block = None }
 
--- so many words from one on have a shadow without an access
-abbrev pub renewed : (count first : ℕ) → List Cell → List Cell
-renewed zero first shadow = shadow
-renewed (suc n) first shadow = slice_set (renewed n first shadow) (first + n) no_accesses
+-- of a word that was given anew with this memory
+abbrev pub given_with : Block → Cell
+given_with m = record no_accesses { block = Some m }
+
+-- so many words from its first one on have a shadow without an access
+abbrev pub renewed : (n : ℕ) → Block → List Cell → List Cell
+renewed zero m shadow = shadow
+renewed (suc n) m shadow = slice_set (renewed n m shadow) (m.first + n) (given_with m)
 
 -- as many of these as the memory has
-abbrev pub few_words : (first count : ℕ) → List Cell → ℕ
-few_words first count shadow = min count (length shadow - first)
+abbrev pub few_words : Block → List Cell → ℕ
+few_words m shadow = min m.count (length shadow - m.first)
 
--- so many words from one on are given anew
-abbrev pub given_anew : (first count : ℕ) → Watched → Watched
-given_anew first count w =
-    record w { shadow = renewed (few_words first count w.shadow) first w.shadow }
+-- memory is given anew
+abbrev pub given_anew : Block → Watched → Watched
+given_anew m w = record w { shadow = renewed (few_words m w.shadow) m w.shadow }
 
 abbrev pub behind : Operation → Watched → Watched
 behind (operation.Access a) w = access_at a (slice_get w.shadow (word_of a)) w
 behind (operation.Pass from to p) w = record w { clocks = passed from to p w.clocks }
-behind (operation.Renew first count p) w = given_anew first count w
+behind (operation.Renew m) w = given_anew m w
 
 -- these operations in order
 abbrev pub behind_all : List Operation → Watched → Watched

@@ -4,9 +4,9 @@ ghost use Rattle.ckrt_look_clocks.specs.Detection.{compared, compared_all, compa
 
 use crate::clock::{Clock, knows, no_clock, pass};
 use crate::found::Findings;
-use crate::operation::{Access, Operation, conflict};
+use crate::operation::{Access, Block, Operation, conflict};
 use crate::pair::Pair;
-use crate::shadow::{Cell, is_repeated, keep, no_accesses};
+use crate::shadow::{Cell, given_with, is_repeated, keep, no_accesses};
 use std::alloc::{AllocError, Global};
 use std::marker::Model;
 
@@ -71,29 +71,38 @@ fn clear_shadow(shadow: &mut Vec<Cell>)
 }
 
 /// An access is compared with one that was kept.
-fn compare(clocks: &[Clock], access: &Access, kept: &Option<Access>, found: &mut Findings)
-    ensures { found_in found.new ≡ compared clocks.now access.now kept.now (found_in found.old) }
+fn compare(
+    block: &Option<Block>,
+    clocks: &[Clock],
+    access: &Access,
+    kept: &Option<Access>,
+    found: &mut Findings,
+)
+    ensures { found_in found.new
+        ≡ compared block.now clocks.now access.now kept.now (found_in found.old) }
 {
     if let Some(kept) = kept {
         if conflict(kept, access) && !knows(clocks, access.thread, kept) {
-            found.note(kept, access);
+            found.note(block, kept, access);
         }
     }
 }
 
 /// An access is compared with the last stores to the bytes of its word, with each once.
 fn compare_stores(
+    block: &Option<Block>,
     clocks: &[Clock],
     access: &Access,
     stores: &[Option<Access>; 4],
     found: &mut Findings,
 )
-    ensures { found_in found.new ≡
-        compared_stores (length stores.now) clocks.now access.now stores.now (found_in found.old) }
+    ensures { found_in found.new
+        ≡ compared_stores (length stores.now) block.now clocks.now access.now stores.now
+        (found_in found.old) }
 {
     for byte in 0..4 {
         if !is_repeated(stores, byte) {
-            compare(clocks, access, &stores[byte], found);
+            compare(block, clocks, access, &stores[byte], found);
         }
     }
 }
@@ -103,32 +112,33 @@ fn compare_all(clocks: &[Clock], access: &Access, cell: &Cell, found: &mut Findi
     ensures { found_in found.new
         ≡ compared_all clocks.now access.now cell.now (found_in found.old) }
 {
-    compare_stores(clocks, access, &cell.stores, found);
-    compare(clocks, access, &cell.load, found);
-    compare(clocks, access, &cell.other, found);
+    compare_stores(&cell.block, clocks, access, &cell.stores, found);
+    compare(&cell.block, clocks, access, &cell.load, found);
+    compare(&cell.block, clocks, access, &cell.other, found);
 }
 
-/// How many of so many words from one on a shadow has.
-fn few_words(shadow: &[Cell], first: u32, count: u32) -> usize
-    ensures { result ≡ few_words first count shadow.now }
+/// How many words of memory that is given anew a shadow has.
+fn few_words(shadow: &[Cell], block: &Block) -> usize
+    ensures { result ≡ few_words block.now shadow.now }
 {
-    let from = first as usize;
+    let from = block.first as usize;
     let all = shadow.len();
     if all <= from {
         return 0;
     }
     let left = all - from;
-    let count = count as usize;
+    let count = block.count as usize;
     if count < left { count } else { left }
 }
 
-/// Nothing accessed so many words from one on any more.
-fn renew(shadow: &mut [Cell], first: usize, count: usize)
-    requires { first + count ≤ length shadow.old }
-    ensures { shadow.new ≡ renewed count first shadow.old }
+/// Nothing accessed the first so many words of memory any more that is given anew.
+fn renew(shadow: &mut [Cell], block: &Block, count: usize)
+    requires { block.now.first + count ≤ length shadow.old }
+    ensures { shadow.new ≡ renewed count block.now shadow.old }
 {
+    let first = block.first as usize;
     for done in 0..count {
-        shadow[first + done] = no_accesses();
+        shadow[first + done] = given_with(block);
     }
 }
 
@@ -137,7 +147,7 @@ impl Detector {
     ghost use Rattle.std.specs.Prelude.{slice_get};
 
     /// Nothing was done yet, by so many holders, of which the first 65 are threads, to a memory of so many words. It takes 1,040
-    /// bytes a holder and 240 bytes a word.
+    /// bytes a holder and 272 bytes a word.
     pub fn new(alloc: Global, holders: usize, words: usize) -> Result<Detector, AllocError>
         ensures { IfOk result (λ detector. detector ≡ fresh holders words) }
     {
@@ -171,14 +181,13 @@ impl Detector {
         keep(&mut self.shadow[word], access);
     }
 
-    /// So many words of memory from one on are given anew: what was done to them before is compared with nothing. Words that the
-    /// memory doesn't have are passed over.
-    pub fn renew(&mut self, first: u32, count: u32)
-        ensures { self.new ≡ given_anew first count self.old }
+    /// Memory is given anew: what was done to it before is compared with nothing. Words that the memory doesn't have are passed over.
+    pub fn renew(&mut self, block: &Block)
+        ensures { self.new ≡ given_anew block.now self.old }
     {
-        let few = few_words(self.shadow.as_slice(), first, count);
+        let few = few_words(self.shadow.as_slice(), block);
         if few > 0 {
-            renew(self.shadow.as_mut_slice(), first as usize, few);
+            renew(self.shadow.as_mut_slice(), block, few);
         }
     }
 
@@ -196,7 +205,7 @@ impl Detector {
                     *place,
                 );
             }
-            Operation::Renew(first, count, _) => self.renew(*first, *count),
+            Operation::Renew(block) => self.renew(block),
         }
     }
 

@@ -2,7 +2,7 @@
 ghost use Rattle.std.specs.Prelude.{◌≡◌, ◌≤◌, vec_capacity, IfOk};
 ghost use Rattle.ckrt_look_clocks.specs.declared.pair.TheConstants.{PAIRS};
 
-use crate::operation::Access;
+use crate::operation::{Access, Block};
 use crate::pair::{PAIRS, Pair, count_again};
 use std::alloc::{AllocError, Global};
 
@@ -35,9 +35,10 @@ impl Findings {
         self.others = 0;
     }
 
-    /// Two accesses race.
-    pub(crate) fn note(&mut self, first: &Access, second: &Access)
-        ensures { found_in self.new ≡ noted first.now second.now (found_in self.old) }
+    /// Two accesses race to a word that was given anew last with this memory.
+    pub(crate) fn note(&mut self, block: &Option<Block>, first: &Access, second: &Access)
+        ensures { found_in self.new
+            ≡ noted block.now first.now second.now (found_in self.old) }
     {
         if count_again(&mut self.pairs, first, second) {
             return;
@@ -47,6 +48,7 @@ impl Findings {
                 first: *first,
                 second: *second,
                 count: 1,
+                block: *block,
             });
             return;
         }

@@ -17,6 +17,6 @@ pub use detector::Detector;
 pub use laws::{
     clocks_are_exact, kept_races_are_found, only_races_are_found, seen_behind_seen, seen_by_chains,
 };
-pub use operation::{Access, Operation, Place, THREADS};
+pub use operation::{Access, Block, Operation, Place, THREADS};
 pub use pair::{PAIRS, Pair};
 pub use shadow::Cell;

@@ -28,6 +28,15 @@ pub struct Access {
     pub place: Place,
 }
 
+/// Memory that was given anew at a place, as a thread told of it: so many words from the first one on.
+#[derive(Clone, Copy, Debug, Drop, PartialEq, Eq)]
+pub struct Block {
+    pub thread: u8,
+    pub first: u32,
+    pub count: u32,
+    pub place: Place,
+}
+
 /// What a thread does to memory, or one holder passes on to another. A holder below [`THREADS`] is the thread of that number,
 /// any other a lock.
 #[derive(Clone, Copy, Debug, Drop)]
@@ -35,8 +44,8 @@ pub enum Operation {
     Access(Access),
     /// All that the first has seen the second has seen from here on.
     Pass(u16, u16, Place),
-    /// Memory is given anew: so many words from this one on. What was done to them before is compared with nothing.
-    Renew(u32, u32, Place),
+    /// Memory is given anew: what was done to it before is compared with nothing.
+    Renew(Block),
 }
 
 /// Whether a place is before another.

@@ -3,7 +3,7 @@ ghost use Rattle.std.specs.Prelude.{◌≡◌, vec_capacity};
 ghost use Rattle.std.specs.List.{list_any};
 ghost use Rattle.ckrt_look_clocks.specs.Detection.{counted, is_at};
 
-use crate::operation::Access;
+use crate::operation::{Access, Block};
 
 /// How many pairs of places are told apart.
 pub const PAIRS: usize = 64;
@@ -15,6 +15,8 @@ pub struct Pair {
     pub second: Access,
     /// How often accesses there raced.
     pub count: u64,
+    /// The memory given anew last that has the word of both.
+    pub block: Option<Block>,
 }
 
 /// Whether two accesses stand at the places of a pair, in either order.

@@ -1,8 +1,8 @@
 //! The shadow of a word of memory.
 ghost use Rattle.std.specs.Prelude.{◌≡◌, ◌%◌, ◌<◌, None};
-ghost use Rattle.ckrt_look_clocks.specs.Detection.{is_by, is_repeated, is_same, kept, no_accesses, stored, with_load};
+ghost use Rattle.ckrt_look_clocks.specs.Detection.{given_with, is_by, is_repeated, is_same, kept, no_accesses, stored, with_load};
 
-use crate::operation::Access;
+use crate::operation::{Access, Block};
 
 /// The accesses to a word that later ones are compared with.
 #[derive(Clone, Copy, Debug)]
@@ -13,6 +13,8 @@ pub struct Cell {
     pub load: Option<Access>,
     /// The last load of the thread that loaded before that one's.
     pub other: Option<Access>,
+    /// The memory given anew last that has the word.
+    pub block: Option<Block>,
 }
 
 /// No access yet.
@@ -23,6 +25,19 @@ pub(crate) fn no_accesses() -> Cell
         stores: [None; 4],
         load: None,
         other: None,
+        block: None,
+    }
+}
+
+/// No access yet, to a word that was given anew with this memory.
+pub(crate) fn given_with(block: &Block) -> Cell
+    ensures { result ≡ given_with block.now }
+{
+    Cell {
+        stores: [None; 4],
+        load: None,
+        other: None,
+        block: Some(*block),
     }
 }
 

@@ -1,4 +1,6 @@
 pub mod BehindLemmas
+pub mod CallerLemmas
+pub mod ReplayLemmas
 pub mod WalkLemmas
 pub mod NumberLemmas
 pub mod RiseLemmas

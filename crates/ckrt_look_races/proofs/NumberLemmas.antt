@@ -58,7 +58,7 @@ lock_number (lock.Fenced t) = omega (arith, thread_number t)
 -- a pass at a place
 abbrev pub IsPassAt : Place → Operation → Type 0
 IsPassAt p (operation.Access a) = ⊥
-IsPassAt p (operation.Renew first count q) = ⊥
+IsPassAt p (operation.Renew b) = ⊥
 IsPassAt p (operation.Pass from to q) = (from < HOLDERS) × (to < HOLDERS) × (q ≡ p)
 
 abbrev pub ArePassesAt : Place → List Operation → Type 0

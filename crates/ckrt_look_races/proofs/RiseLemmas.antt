@@ -41,7 +41,7 @@ use Rattle.ckrt_look_races.proofs.NumberLemmas.{ArePassesAt, between_passes, loc
 abbrev pub next_of : Operation → ℕ
 next_of (operation.Access a) = moment a.place + 1
 next_of (operation.Pass from to p) = moment p
-next_of (operation.Renew first count p) = moment p
+next_of (operation.Renew b) = moment b.place
 
 -- in order, from a moment on, to another
 abbrev pub Rises : (m : ℕ) → List Operation → (e : ℕ) → Type 0
@@ -65,7 +65,7 @@ both m (x ∷ xs) ys e f up also = (up.0, up.1, both (next_of x) xs ys e f up.2 
 passes_rise : (p : Place) (m : ℕ) (os : List Operation) → m ≤ moment p → ArePassesAt p os → Rises m os (moment p + 1)
 passes_rise p m [] le are = omega (arith, le)
 passes_rise p m (operation.Access a ∷ os) le are = absurd are.0
-passes_rise p m (operation.Renew first count q ∷ os) le are = absurd are.0
+passes_rise p m (operation.Renew b ∷ os) le are = absurd are.0
 passes_rise p m (operation.Pass from to q ∷ os) le are =
     let same : moment q ≡ moment p = ap moment are.0.2 in
     ((are.0.0, are.0.1), omega (arith, same, le), passes_rise p (moment q) os (omega (arith, same)) are.1)
@@ -192,7 +192,7 @@ events_rise k (e ∷ es) s fit =
 next_is : (o : Operation) (past : History) → next_moment (o ∷ past) ≡ next_of o
 next_is (operation.Access a) past = refl
 next_is (operation.Pass from to p) past = refl
-next_is (operation.Renew first count p) past = refl
+next_is (operation.Renew b) past = refl
 
 orderly : (past : History) (os : List Operation) (m e : ℕ) → IsOrderly HOLDERS past → next_moment past ≤ m → Rises m os e → IsOrderly HOLDERS (latest_first os past)
 orderly past [] m e is le up = is

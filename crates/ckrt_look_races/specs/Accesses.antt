@@ -13,6 +13,7 @@ use Rattle.ckrt_rv32i.specs.declared.memory_bus.Size.TheVariants as size
 use Rattle.ckrt_thread.specs.State as threads
 use Rattle.ckrt_machine.specs.Steps.{State}
 use Rattle.ckrt_look_clocks.specs.declared.operation.Access.{Access}
+use Rattle.ckrt_look_clocks.specs.declared.operation.Block.{Block}
 use Rattle.ckrt_look_clocks.specs.declared.operation.Place.{Place}
 use Rattle.ckrt_look_clocks.specs.declared.operation.Operation.{Operation}
 use Rattle.ckrt_look_clocks.specs.declared.operation.Operation.TheVariants as operation
@@ -126,8 +127,16 @@ abbrev pub is_renewal : AluOp → (rd : ℕ) → Bool
 is_renewal alu.Slt rd = rd == 0
 is_renewal _ rd = false
 
+abbrev pub block_of : Stepping → (address bytes : ℕ) → Block
+block_of s a n = record {
+  thread = thread_holder s.thread;
+  first = a / 4;
+  count = n / 4;
+  place = s.place;
+}
+
 abbrev pub renewal : Stepping → (address bytes : ℕ) → List Operation
-renewal s a n = operation.Renew (a / 4) (n / 4) s.place ∷ []
+renewal s a n = operation.Renew (block_of s a n) ∷ []
 
 abbrev pub renewal_by : Stepping → AluOp → (rd rs1 rs2 : ℕ) → List Operation
 renewal_by s op rd rs1 rs2 =

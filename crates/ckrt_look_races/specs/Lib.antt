@@ -6,5 +6,7 @@ pub mod Writers
 pub mod Orders
 pub mod Steps
 pub mod Texts
+pub mod Moments
+pub mod Again
 pub mod Recorded
 pub mod Laws

@@ -2,7 +2,9 @@
 use Rattle.std.specs.Prelude.{◌≡◌, ℕ, ◌+◌, ◌/◌, List, length}
 use Rattle.ckrt_events.specs.declared.event.Event.{Event}
 use Rattle.ckrt_machine.specs.Steps.{State}
+use Rattle.ckrt_look_callers.specs.declared.rule.Rule.{Rule}
 use Rattle.ckrt_look_clocks.specs.Detection.{Found, behind_all, fresh}
+use Rattle.ckrt_look_races.specs.Again.{Replay, race_text}
 use Rattle.ckrt_look_races.specs.Holders.{HOLDERS}
 use Rattle.ckrt_look_races.specs.Steps.{of_events}
 use Rattle.ckrt_look_races.specs.Texts.{found_text}
@@ -15,10 +17,14 @@ words_of s = 1024 + length s.bytes / 4
 abbrev pub found_by : ℕ → List Event → State → Found
 found_by k es s = (behind_all (of_events k es s) (fresh HOLDERS (words_of s))).found
 
--- what is written of them
-abbrev pub races_text : ℕ → List Event → State → List ℕ
-races_text k es s = found_text k (k + length es) (found_by k es s)
+-- what is written of them, with the rules by which callers are found
+abbrev pub replay : List Rule → ℕ → List Event → State → Replay
+replay rules k es s = record { rules = rules; count = k; events = es; start = s }
+
+abbrev pub races_text : List Rule → ℕ → List Event → State → List ℕ
+races_text rules k es s =
+    found_text (race_text (replay rules k es s)) k (k + length es) (found_by k es s)
 
 -- this is that text
-abbrev pub IsRacesText : (k : ℕ) → List Event → State → List ℕ → Type 0
-IsRacesText k es s text = text ≡ races_text k es s
+abbrev pub IsRacesText : List Rule → (k : ℕ) → List Event → State → List ℕ → Type 0
+IsRacesText rules k es s text = text ≡ races_text rules k es s

@@ -55,9 +55,10 @@ elsewhere k =
 abbrev pub none_text : (begin end : ℕ) → List ℕ
 none_text k l = stretch_text k l ++ codes " of this schedule; " ++ elsewhere k
 
-abbrev pub text_of : (begin end : ℕ) → List Pair → ℕ → List ℕ
-text_of k l [] n = none_text k l
-text_of k l (p ∷ ps) n = flat_map pair_line (p ∷ ps) ++ others_line n
+-- where each pair has a text
+abbrev pub text_of : (Pair → List ℕ) → (begin end : ℕ) → List Pair → ℕ → List ℕ
+text_of each k l [] n = none_text k l
+text_of each k l (p ∷ ps) n = flat_map each (p ∷ ps) ++ others_line n
 
-abbrev pub found_text : (begin end : ℕ) → Found → List ℕ
-found_text k l f = text_of k l f.pairs f.others
+abbrev pub found_text : (Pair → List ℕ) → (begin end : ℕ) → Found → List ℕ
+found_text each k l f = text_of each k l f.pairs f.others

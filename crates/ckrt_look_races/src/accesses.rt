@@ -4,11 +4,11 @@ ghost use Rattle.ckrt_machine.specs.Steps.{hart_of};
 ghost use Rattle.ckrt_look_clocks.specs.declared.operation.Operation.TheVariants as operation;
 ghost use Rattle.ckrt_look_clocks.specs.Detection.{behind_all};
 ghost use Rattle.ckrt_look_steps.specs.Accesses.{fetched};
-ghost use Rattle.ckrt_look_races.specs.Accesses.{access_of, accesses, place_behind, fence_by, fence_operations, is_renewal, is_thread_fence, is_word_at, load_at, load_operations, load_order, of_instruction, order_by, renewal_by, store_at, store_operations, store_order, told};
+ghost use Rattle.ckrt_look_races.specs.Accesses.{access_of, accesses, block_of, place_behind, fence_by, fence_operations, is_renewal, is_thread_fence, is_word_at, load_at, load_operations, load_order, of_instruction, order_by, renewal_by, store_at, store_operations, store_order, told};
 
 use crate::holders::{Lock, acquired, handed_on, released, thread_holder};
 use crate::kit::is_in_kit;
-use ckrt_look_clocks::{Access, Detector, Place};
+use ckrt_look_clocks::{Access, Block, Detector, Place};
 use ckrt_look_steps::{byte_count, fetched, may_access};
 use ckrt_machine::Machine;
 use ckrt_memory::Memory;
@@ -47,24 +47,17 @@ pub(crate) struct Stepping {
     pub(crate) regs: Regs,
 }
 
-/// Whether a word stands at an address.
-fn is_word_at(memory: &Memory, address: u32, word: u32) -> bool
-    requires { address % 4 ≡ 0 }
-    ensures { result ≡ is_word_at memory.now.bytes address word }
-{
-    memory.load(address, Size::Word) == Some(word)
-}
-
 /// The order of an access that has one of these words beside it, or none.
 fn order_by(memory: &Memory, address: u32, orders: u32, relaxed: u32) -> Order
     requires { address % 4 ≡ 0 }
     ensures { result ≡ order_by (is_word_at memory.now.bytes address orders)
         (is_word_at memory.now.bytes address relaxed) }
 {
-    if is_word_at(memory, address, orders) {
+    let word = memory.load(address, Size::Word);
+    if word == Some(orders) {
         return Order::Orders;
     }
-    if is_word_at(memory, address, relaxed) {
+    if word == Some(relaxed) {
         Order::Relaxed
     } else {
         Order::Plain
@@ -226,6 +219,18 @@ fn is_renewal(op: AluOp, rd: u8) -> bool
     }
 }
 
+/// So many bytes from an address on, which a step tells of as given anew.
+fn block_of(step: &Stepping, address: u32, bytes: u32) -> Block
+    ensures { result ≡ block_of step.now address bytes }
+{
+    Block {
+        thread: thread_holder(u32::from(step.thread)) as u8,
+        first: address / 4,
+        count: bytes / 4,
+        place: step.place,
+    }
+}
+
 /// Memory that is given anew, if an instruction tells of some.
 fn watch_renewal(step: &Stepping, op: AluOp, rd: u8, rs1: u8, rs2: u8, detector: &mut Detector)
     requires first { rs1 < 32 }
@@ -233,7 +238,7 @@ fn watch_renewal(step: &Stepping, op: AluOp, rd: u8, rs1: u8, rs2: u8, detector:
     ensures { detector.new ≡ behind_all (renewal_by step.now op rd rs1 rs2) detector.old }
 {
     if is_renewal(op, rd) {
-        detector.renew(step.regs.get(rs1) / 4, step.regs.get(rs2) / 4);
+        detector.renew(&block_of(step, step.regs.get(rs1), step.regs.get(rs2)));
     }
 }
 

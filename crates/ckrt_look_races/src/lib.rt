@@ -1,17 +1,23 @@
 //! Data races of a guest: which of its loads and stores no lock, barrier, creation or join puts in an order.
 //!
 //! [`write_races`] goes over recorded events step by step, and writes what it found: each
-//! pair of places in the program once, with the first two accesses there that race, and how often.
+//! pair of places in the program once, with the first two accesses there that race, and how often. Then it goes to the places of these
+//! accesses again, and writes beneath each pair which locks were held there and who called.
 #![tactic(auto)]
 
 mod accesses;
+mod again;
+mod callers;
 mod calls;
+mod held;
 mod holders;
 mod kit;
 mod laws;
 mod looking;
+mod moment;
 mod orders;
 mod recorded;
+mod replay;
 mod texts;
 mod walk;
 

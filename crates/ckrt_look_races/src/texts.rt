@@ -1,11 +1,10 @@
 //! What was found, as text.
-ghost use Rattle.std.specs.Prelude.{◌≡◌, [], OnOk};
-ghost use Rattle.std.specs.List.{flat_map};
+ghost use Rattle.std.specs.Prelude.{◌≡◌, OnOk};
 ghost use Rattle.std.specs.Io.KnownBytes.{Appends};
-ghost use Rattle.ckrt_look_races.specs.Texts.{access_text, both_text, elsewhere, found_text, none_text, others_line, others_text, pair_line, place_text, stretch_text, times_text, verb, what_text};
+ghost use Rattle.ckrt_look_races.specs.Texts.{access_text, both_text, elsewhere, none_text, others_line, others_text, pair_line, place_text, stretch_text, times_text, verb, what_text};
 
 use ckrt_look_calls::{write_counted, write_hex, write_number};
-use ckrt_look_clocks::{Access, Detector, Pair};
+use ckrt_look_clocks::{Access, Pair};
 use std::io::{Result, Write};
 
 /// Where an access was made, and by whom.
@@ -79,7 +78,7 @@ pub fn write_both<W: Write>(out: &mut W, pair: &Pair) -> Result<()>
 
 /// A pair of places.
 #[tactic(auto, using(ckrt_look_calls::proofs::AppendLemmas::appends_both))]
-fn write_pair<W: Write>(out: &mut W, pair: &Pair) -> Result<()>
+pub(crate) fn write_pair<W: Write>(out: &mut W, pair: &Pair) -> Result<()>
     ensures { OnOk result
         (Appends (W.contents out.old) (W.contents out.new) (pair_line pair.now)) }
 {
@@ -87,18 +86,6 @@ fn write_pair<W: Write>(out: &mut W, pair: &Pair) -> Result<()>
     out.write_all(b", ")?;
     write_times(out, pair.count)?;
     out.write_all(b"\n")
-}
-
-/// Pairs of places.
-#[tactic(auto, using(ckrt_look_calls::proofs::AppendLemmas::appends_none, ckrt_look_calls::proofs::AppendLemmas::appends_more, ckrt_look_calls::proofs::AppendLemmas::appends_all))]
-fn write_pairs<W: Write>(out: &mut W, pairs: &[Pair]) -> Result<()>
-    ensures { OnOk result
-        (Appends (W.contents out.old) (W.contents out.new) (flat_map pair_line pairs.now)) }
-{
-    for pair in pairs {
-        write_pair(out, pair)?;
-    }
-    Ok(())
 }
 
 /// How often accesses raced for whose places no row was left.
@@ -114,7 +101,7 @@ fn write_others<W: Write>(out: &mut W, others: u64) -> Result<()>
 
 /// The same, if they did.
 #[tactic(auto, using(ckrt_look_calls::proofs::AppendLemmas::appends_none))]
-fn write_others_line<W: Write>(out: &mut W, others: u64) -> Result<()>
+pub(crate) fn write_others_line<W: Write>(out: &mut W, others: u64) -> Result<()>
     ensures { OnOk result
         (Appends (W.contents out.old) (W.contents out.new) (others_line others)) }
 {
@@ -148,31 +135,11 @@ fn elsewhere(begin: u64) -> &'static [u8]
 
 /// Where there were none.
 #[tactic(auto, using(ckrt_look_calls::proofs::AppendLemmas::appends_both))]
-fn write_none<W: Write>(out: &mut W, begin: u64, end: u64) -> Result<()>
+pub(crate) fn write_none<W: Write>(out: &mut W, begin: u64, end: u64) -> Result<()>
     ensures { OnOk result
         (Appends (W.contents out.old) (W.contents out.new) (none_text begin end)) }
 {
     write_stretch(out, begin, end)?;
     out.write_all(b" of this schedule; ")?;
     out.write_all(elsewhere(begin))
-}
-
-/// What was found behind the first events, up to behind these.
-#[tactic(auto, using(ckrt_look_calls::proofs::AppendLemmas::appends_both))]
-pub(crate) fn write_found<W: Write>(
-    out: &mut W,
-    begin: u64,
-    end: u64,
-    detector: &Detector,
-) -> Result<()>
-    ensures { OnOk result
-        (Appends (W.contents out.old) (W.contents out.new)
-        (found_text begin end detector.now.found)) }
-{
-    let pairs = detector.pairs();
-    if pairs.is_empty() {
-        return write_none(out, begin, end);
-    }
-    write_pairs(out, pairs)?;
-    write_others_line(out, detector.others())
 }

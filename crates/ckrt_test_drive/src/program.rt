@@ -117,6 +117,7 @@ fn ckrt<'a, R: Abort + Files<File = File> + AllocGlobal>(
     let status = run_words::<R, Brand, _, _, _, _>(
         rt.alloc(),
         words.as_slice(),
+        &[],
         &mut SystemSources::new(rt, why, Calls::new()),
         &mut reader,
         &mut output,

@@ -58,4 +58,5 @@ reach_of stream contents s = record {
   Opens = λ _ disk. s.disk ≡ Some disk;
   Fills = λ _ _ disk. s.filled ≡ Some disk;
   others = gives_of s;
+  rules = [];
 }

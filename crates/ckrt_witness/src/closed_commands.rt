@@ -110,6 +110,7 @@ fn run<'a, R: Abort + AllocGlobal>(
     >(
         rt.alloc(),
         words,
+        &[],
         &mut sources,
         &mut lines,
         &mut printed,

@@ -43,6 +43,7 @@ fn run_shelf<'a, R: Abort + AllocGlobal>(
     >(
         rt.alloc(),
         words,
+        &[],
         &mut sources,
         &mut lines,
         &mut printed,

@@ -62,7 +62,7 @@ fn run_real<'a, R: Abort + Files<File = File> + AllocGlobal>(
     status: u8,
 )
     ensures { Ended {d = ⟦<RealDisk<'a, Trio> as Disk>⟧}
-        (real_files ⟦<StreamOutput<'a, Vec<u8>> as Disk>⟧ ⟦<Vec<u8> as Write>⟧.contents)
+        (real_files ⟦<StreamOutput<'a, Vec<u8>> as Disk>⟧ ⟦<Vec<u8> as Write>⟧.contents [])
         (map (λ s. s.now) words.entry.now) status }
 {
     let mut lines: &[u8] = &[];
@@ -71,6 +71,7 @@ fn run_real<'a, R: Abort + Files<File = File> + AllocGlobal>(
     let got = run_words::<R, Trio, &[u8], Vec<u8>, WrittenReport<Vec<u8>>, Nobody>(
         rt.alloc(),
         words,
+        &[],
         &mut SystemSources::new(rt, why, Calls::new()),
         &mut lines,
         &mut printed,
@@ -90,7 +91,7 @@ fn real_words<'a, R: Abort + Files<File = File> + AllocGlobal>(
 )
     ensures { WordsWitness {S = Unit {0}} {d = ⟦<RealDisk<'a, Trio> as Disk>⟧}
         (λ _. real_files ⟦<StreamOutput<'a, Vec<u8>> as Disk>⟧
-        ⟦<Vec<u8> as Write>⟧.contents) }
+        ⟦<Vec<u8> as Write>⟧.contents []) }
 {
     expect_format(rt, making);
     run_real(rt, making, why, 0);

@@ -19,6 +19,7 @@ pub fn two_runs<'a, I: Read, D: Disk, S: Sources<'a, I, D>, W: Write + 'a>()
           Opens = S.opens sources;
           Fills = S.fills sources;
           others = S.gives sources;
+          rules = [];
         }) p file
         → RunsWitness {d = D.Disk} (λ (sources : S). record {
           stream = ⟦<StreamOutput<'a, W> as Disk>⟧;
@@ -27,5 +28,6 @@ pub fn two_runs<'a, I: Read, D: Disk, S: Sources<'a, I, D>, W: Write + 'a>()
           Opens = S.opens sources;
           Fills = S.fills sources;
           others = S.gives sources;
+          rules = [];
         }) file }
 {}

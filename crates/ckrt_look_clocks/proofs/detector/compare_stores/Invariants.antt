@@ -5,4 +5,4 @@ use Rattle.ckrt_look_clocks.proofs.detector.compare_stores.Given as goal
 -- with those of so many bytes
 abbrev pub invariant-loop-byte : goal.invariant-loop-byte
 invariant-loop-byte l =
-    found_in l.found ≡ compared_stores l.byte l.clocks l.access l.stores (found_in l.fn.found)
+    found_in l.found ≡ compared_stores l.byte l.block l.clocks l.access l.stores (found_in l.fn.found)

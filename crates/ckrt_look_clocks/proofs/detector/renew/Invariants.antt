@@ -4,4 +4,4 @@ use Rattle.ckrt_look_clocks.proofs.detector.renew.Given as goal
 
 -- the words so far
 abbrev pub invariant-loop-done : goal.invariant-loop-done
-invariant-loop-done l = l.shadow ≡ renewed l.done l.first l.fn.shadow
+invariant-loop-done l = l.shadow ≡ renewed l.done l.block l.fn.shadow

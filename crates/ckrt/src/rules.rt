@@ -1,0 +1,13 @@
+//! The rules by which a job finds callers.
+use ckrt_cli_names::Names;
+use ckrt_cli_words::Job;
+use ckrt_look_callers::Rule;
+use std::alloc::{AllocError, Global};
+
+/// Those that the names of a disk have, for a job that tells callers of each race.
+pub fn rules_for(alloc: Global, job: &Job<'_>, names: &Names) -> Result<Vec<Rule>, AllocError> {
+    match job {
+        Job::Races(_) => names.copied_rules(alloc),
+        _ => Ok(Vec::new(alloc)),
+    }
+}
