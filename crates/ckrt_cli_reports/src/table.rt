@@ -45,12 +45,16 @@ impl HuntAsked {
 
     /// The same of the seeds that were run.
     fn with(&self, seeds: Seeds) -> Asked<'_> {
+        let input = match &self.input {
+            Some(path) => Some(path.as_str()),
+            None => None,
+        };
         Asked {
             image: self.image.as_str(),
             shape: self.shape,
             seeds,
             may_end: self.may_end,
-            input: self.input.as_ref().map(String::as_str),
+            input,
             races: false,
             all_rows: self.all_rows,
         }
