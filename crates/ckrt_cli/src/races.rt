@@ -55,7 +55,8 @@ pub fn races_path<'a, I: Read, D: Disk, S: Sources<'a, I, D>, W: Write>(
     writer: &mut W,
 ) -> Result<(), JobFault>
     ensures races { (left : Option (List ℕ))
-        → RacesPath D.Disk (S.opens sources.old job.now.disk.now) rules.now (disk_stretch_of job.now)
+        → RacesPath D.Disk (S.opens sources.old job.now.disk.now) rules.now
+        (disk_stretch_of job.now)
         (outside (S.openings sources.old) (W.contents writer.old) left)
         (outside (S.openings sources.new) (W.contents writer.new) left) result }
 {
