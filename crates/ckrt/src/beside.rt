@@ -270,11 +270,15 @@ pub fn of_program<R: Files<File = File>>(
     names: Names,
     disk: &str,
 ) -> Result<Names, Trouble> {
-    match note_of_disk(rt, alloc, disk) {
-        Some(note) if note.bytes != u64::from(names.length()) || note.digest != names.digest() => {
-            Err(Trouble::OtherProgram)
-        }
-        _ => Ok(names),
+    let Some(note) = note_of_disk(rt, alloc, disk) else {
+        return Ok(names);
+    };
+    let noted = note.digest;
+    let named = names.digest();
+    if noted == named && note.bytes == u64::from(names.length()) {
+        Ok(names)
+    } else {
+        Err(Trouble::OtherProgram)
     }
 }
 

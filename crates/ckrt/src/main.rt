@@ -28,6 +28,9 @@ use std::marker::Brand;
 use std::process::ExitCode;
 use threads::{tell_driven, tell_looked_at};
 
+/// How many bytes of reports are held, so that memory which is refused later takes none away. A job reports some lines.
+const REPORT_ROOM: usize = 65_536;
+
 /// What a job is done with: its words, a place for why an output failed, where it is known the job, and the rules by which it finds
 /// callers.
 #[derive(Clone, Copy)]
@@ -45,8 +48,10 @@ fn write_report(rt: &HostRuntime, task: Task<'_, '_>, status: u8, names: Names, 
         let _ = tell_driven(rt, task.why, job, status, &mut names);
     }
     let mut report = NamedWriter::new(rt.alloc(), names, rt.stderr());
-    let _ = report.write_all(bytes);
-    let _ = report.flush();
+    if report.write_all(bytes).is_err() || report.flush().is_err() {
+        // Without the memory for a line with names it is told without them.
+        let _ = rt.stderr().write_all(bytes);
+    }
 }
 
 /// The names that a hunt prints with, once more; none for another job, or where memory is refused.
@@ -68,11 +73,14 @@ fn run<'a>(
     (printed, form): (Names, Form),
     reported: Names,
 ) -> u8 {
+    let Ok(room) = Vec::with_capacity(rt.alloc(), REPORT_ROOM) else {
+        return refuse_memory(rt);
+    };
     let told = ToldWriter::new(io::writer(rt), task.why);
     let again = names_of_kept(rt, task, &printed);
     let named = NamedWriter::in_form(rt.alloc(), printed, form, told);
     let mut writer = KeptWriter::new(rt, task.why, again, named);
-    let mut reporter = WrittenReport::new(Vec::new(rt.alloc()));
+    let mut reporter = WrittenReport::new(room);
     let status = run_words::<HostRuntime, Brand, _, _, _, _>(
         rt.alloc(),
         task.words,

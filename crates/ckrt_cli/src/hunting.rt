@@ -202,7 +202,7 @@ fn keep_if_asked<'a, I: Read, D: Disk, S: Sources<'a, I, D>, W: Write>(
 fn hunt_image<'a, I: Read, D: Disk, S: Sources<'a, I, D>, W: Write, O: HuntOnlooker>(
     alloc: Global,
     job: &HuntJob<'a>,
-    hunted: &Hunted<'_, '_>,
+    hunted: &Hunted<'a, '_>,
     sources: &mut S,
     writer: &mut W,
     onlooker: &mut O,

@@ -2,6 +2,7 @@
 ghost use Rattle.std.specs.Prelude.{List, ℕ};
 ghost use Rattle.ckrt_disk.specs.Disk.{IsImage};
 ghost use Rattle.ckrt_cli.specs.Performing.{real_files};
+ghost use Rattle.ckrt_look_callers.specs.declared.rule.Rule.{Rule};
 ghost use Rattle.ckrt_cli_theorem.specs.Commands.{CommandsGoOn, RunsGoOn};
 ghost use Rattle.ckrt_cli_theorem.specs.Promise.{LeaveItLonger};
 
@@ -24,15 +25,17 @@ pub fn disks_are_left_before_drives<D: Disk>()
     ensures { LeaveItLonger D.Disk }
 {}
 
-/// The same of runs over any sources, as `run_words_with` takes them: each reaches what its sources give when it begins.
+/// The same of runs over any sources, as `run_words_with` takes them, whatever the rules by which races tell callers: each reaches what its
+/// sources give when it begins.
 pub fn runs_go_on<'a, I: Read, D: Disk, S: Sources<'a, I, D>, W: Write + 'a>()
-    ensures { RunsGoOn {d = D.Disk} (λ (sources : S). record {
+    ensures { (rules : List Rule) → RunsGoOn {d = D.Disk} (λ (sources : S). record {
       stream = ⟦<StreamOutput<'a, W> as Disk>⟧;
       contents = W.contents;
       images = S.image_bytes sources;
       Opens = S.opens sources;
       Fills = S.fills sources;
       others = S.gives sources;
+      rules = rules;
     }) }
 {
     disk_laws::<D>();
@@ -42,8 +45,8 @@ pub fn runs_go_on<'a, I: Read, D: Disk, S: Sources<'a, I, D>, W: Write + 'a>()
 /// these hold over time, as `H` says of each. Each begins with what the run before it, or a stop of that at any moment, left of disk
 /// and output. Those that come to their drives keep what was acknowledged before, and so on: the promise of many drives.
 pub fn commands_go_on<'a, H: Holds + 'a, W: Write + 'a>()
-    ensures { CommandsGoOn {d = ⟦<RealDisk<'a, H> as Disk>⟧}
-        (real_files ⟦<StreamOutput<'a, W> as Disk>⟧ W.contents) }
+    ensures { (rules : List Rule) → CommandsGoOn {d = ⟦<RealDisk<'a, H> as Disk>⟧}
+        (real_files ⟦<StreamOutput<'a, W> as Disk>⟧ W.contents rules) }
 {
     disk_laws::<RealDisk<'a, H>>();
 }

@@ -147,7 +147,7 @@ impl Detector {
     ghost use Rattle.std.specs.Prelude.{slice_get};
 
     /// Nothing was done yet, by so many holders, of which the first 65 are threads, to a memory of so many words. It takes 1,040
-    /// bytes a holder and 272 bytes a word.
+    /// bytes a holder and 280 bytes a word.
     pub fn new(alloc: Global, holders: usize, words: usize) -> Result<Detector, AllocError>
         ensures { IfOk result (λ detector. detector ≡ fresh holders words) }
     {

@@ -49,7 +49,7 @@ fn watch_events(
     true
 }
 
-/// How many pages a program has at most whose races are looked for: for each there are 272 KiB.
+/// How many pages a program has at most whose races are looked for: for each there are 280 KiB.
 pub const PAGES_LIMIT: u32 = 8_192;
 
 /// How many words of memory there are, from address 0 on.
@@ -59,7 +59,7 @@ fn words_of(machine: &Machine) -> usize
     1024 * machine.memory().pages() as usize
 }
 
-/// A detector for what a machine does from here on: what was done before is taken as ordered. It takes 14 MB, and 68 bytes for each of
+/// A detector for what a machine does from here on: what was done before is taken as ordered. It takes 14 MB, and 70 bytes for each of
 /// the guest's memory. It fails where the allocator refuses them, or the program has more than [`PAGES_LIMIT`] pages.
 pub fn detector_for(alloc: Global, machine: &Machine) -> Result<Detector, AllocError>
     ensures { IfOk result (λ detector.
@@ -104,7 +104,7 @@ fn write_found<W: Write>(
 /// Makes events, each of which is to be accepted at its turn, and writes their races: each pair of places in them once, with the first two
 /// accesses there that race, and how often, or where there were none. Beneath each stand the locks and the callers of both threads at
 /// their accesses, found by the rules, and the memory that was given anew last which has the word of both. The first event is behind
-/// `count` others, and what was done before it is taken as ordered. It takes 14 MB, and 71 bytes for each of the guest's memory, and
+/// `count` others, and what was done before it is taken as ordered. It takes 14 MB, and 73 bytes for each of the guest's memory, and
 /// twelve more where it looks at a race again.
 ///
 /// # Errors

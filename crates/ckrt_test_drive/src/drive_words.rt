@@ -194,7 +194,7 @@ const NO_INPUT: &str =
 const ABSENT: &str = "the disk drive_none.disk: there is no such file\nckrt: File\n";
 
 const UNFORMATTED: &str =
-    "the disk drive_d.disk: `ckrt format` didn't make it, or was stopped meanwhile: look at its path, or give that format again (docs/OPERATING.md)\nckrt: NotFormatted\n";
+    "the disk drive_d.disk: it is no disk of ckrt, or its making was stopped: look at its path (docs/OPERATING.md)\nckrt: NotFormatted\n";
 
 const FOLDER: &str = "the output .: it is a directory\nckrt: File\n";
 

@@ -317,15 +317,19 @@ const ENDS: [(&[u8], &[u8]); 9] = [
     (b"7+12 thread 1 exit(3) = ?", b""),
 ];
 
+/// Tells the thread of a case.
+fn tell_case<R: Abort + AllocGlobal>(rt: &R, names: &mut Names, memory: &Memory, case: &Case) {
+    let told = names.tell_thread(rt.alloc(), memory, case.0, &frame(case.1, case.2));
+    expect_eq(rt, told.is_ok(), true);
+}
+
 /// The names with both threads told. The one of this number ended the program.
 fn ended<R: Abort + AllocGlobal>(rt: &R, memory: &Memory, first: &Case, ended_by: u8) -> Names {
     let Some(mut names) = names_in(rt, FILE) else {
         panic!(rt; "these are names");
     };
-    for case in [first, &CASES[13]] {
-        let told = names.tell_thread(rt.alloc(), memory, case.0, &frame(case.1, case.2));
-        expect_eq(rt, told.is_ok(), true);
-    }
+    tell_case(rt, &mut names, memory, first);
+    tell_case(rt, &mut names, memory, &CASES[13]);
     names.tell_ended_by(ended_by);
     names
 }

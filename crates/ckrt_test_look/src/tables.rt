@@ -291,6 +291,22 @@ outcome 5: 3 of 200 runs, first by seed 4: exit 0, output 64646464
 outputs of exit 0: 5 in 8 of 200 runs, the three commonest above
 ";
 
+/// The seeds behind the first one that a row remembers; none where there is no such row.
+fn later_of(outcomes: &Outcomes, index: usize) -> &[u64] {
+    match outcomes.rows().get(index) {
+        Some(row) => row.later(),
+        None => &[],
+    }
+}
+
+/// How many runs a row counts, and the first seed; zeros where there is no such row.
+fn counted(outcomes: &Outcomes, index: usize) -> (u64, u64) {
+    match outcomes.rows().get(index) {
+        Some(row) => (row.count, row.first),
+        None => (0, 0),
+    }
+}
+
 #[test]
 fn the_commonest_of_many_outputs_are_told(rt: HostRuntime) {
     let mut tally = tally_of_outputs(&rt);
@@ -299,8 +315,8 @@ fn the_commonest_of_many_outputs_are_told(rt: HostRuntime) {
     expect_eq(&rt, table_of(&rt, &copied).as_slice(), OUTPUTS);
     let outcomes = outcomes_in(&rt, &mut tally);
     expect_eq(&rt, table_of(&rt, &outcomes).as_slice(), OUTPUTS);
-    expect_eq(&rt, outcomes.rows()[4].later(), [5, 7].as_slice());
-    expect_eq(&rt, outcomes.rows()[5].later(), [].as_slice());
+    expect_eq(&rt, later_of(&outcomes, 4), [5, 7].as_slice());
+    expect_eq(&rt, later_of(&outcomes, 5), [].as_slice());
 }
 
 #[test]
@@ -324,13 +340,9 @@ fn ten_seeds_of_an_outcome_are_remembered(rt: HostRuntime) {
         note(&mut tally, seed, Outcome::WaitsForInput, None);
     }
     let outcomes = outcomes_in(&rt, &mut tally);
-    let row = &outcomes.rows()[0];
-    expect_eq(&rt, (row.count, row.first), (15, 5));
-    expect_eq(
-        &rt,
-        row.later(),
-        [6, 7, 8, 9, 10, 11, 12, 13, 14].as_slice(),
-    );
+    expect_eq(&rt, counted(&outcomes, 0), (15, 5));
+    let later = [6, 7, 8, 9, 10, 11, 12, 13, 14];
+    expect_eq(&rt, later_of(&outcomes, 0), later.as_slice());
 }
 
 /// What two runs come to together.

@@ -1,4 +1,5 @@
-//! Disks of version 1, built byte by byte: their programs have no keys, for good, also once they are saved in version 2.
+//! Disks of version 1, built byte by byte: their programs have no keys, for good, also once they are saved in version 2. Nor do they
+//! note their program: the digest of one that does is that of `sha256sum`.
 
 use crate::expect::{
     copied, expect_bytes, expect_eq, expect_part, image_of, memory_disk, old_disk,
@@ -82,7 +83,8 @@ fn a_program_of_version_2_has_keys(rt: HostRuntime) {
     let disk = lived(&rt, disk, b"place 0 1\nrun 0 8\ncommit\n", ran);
     let listing = b"events 2\nclock 0\nstatus running\nhart 0 1\n\
 thread 1 joinable ready pc 00001020 enabled deferred none handlers 0\n\
-key 0 00001028\nvalue 1 0 67\n";
+key 0 00001028\nvalue 1 0 67\n\
+program 46030a486b3eefeb488608aa58cc4b195eaf942ebc9457f948fda59e47e8da9e 52\n";
     expect_listing(&rt, disk.as_slice(), listing);
     let disk = lived(&rt, disk, b"checkpoint\n", b"ack 2\n");
     expect_listing(&rt, disk.as_slice(), listing);

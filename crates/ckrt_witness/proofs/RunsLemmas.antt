@@ -8,6 +8,7 @@ use Rattle.ckrt_drive.specs.declared.options.Options.{Options}
 use Rattle.ckrt_cli_disk.specs.Driving.{Means, way_of}
 use Rattle.ckrt_cli_disk.specs.Feeding.{EndsWithRoom, Supplies, SuppliesOpened, SuppliesRoomy, SuppliesTaken}
 use Rattle.ckrt_cli_disk.specs.Missing.{MakesMissing}
+use Rattle.ckrt_cli_disk.specs.Programs.{Compares}
 use Rattle.ckrt_cli_disk.specs.declared.feeding.Intake.{Intake}
 use Rattle.ckrt_cli_disk.specs.declared.feeding.Supplied.{Supplied}
 use Rattle.ckrt_cli_disk.specs.declared.feeding.Unready.{Unready}
@@ -15,7 +16,7 @@ use Rattle.ckrt_cli_faults.specs.Ranges.{config_for}
 use Rattle.ckrt_cli_faults.specs.declared.fault.JobFault.{JobFault}
 use Rattle.ckrt_cli.specs.Performing.{Reach, means_in}
 use Rattle.ckrt_schedule.specs.declared.schedule.Schedule.{Schedule}
-use Rattle.ckrt_cli_files.specs.Openings.{Openings, opened, with_closed_input, with_closed_output, with_input}
+use Rattle.ckrt_cli_files.specs.Openings.{Openings, opened, with_disk, with_closed_input, with_closed_output, with_input}
 use Rattle.ckrt_cli_files.specs.Sources.{Gives}
 use Rattle.ckrt_stored.specs.Programs.{Program, RecoversToStart}
 use Rattle.ckrt_stored.specs.declared.fault.RecoverFault.{RecoverFault}
@@ -103,13 +104,14 @@ module _ {D W : Type 0} {d : Ghosts D} (means : Means d W) (j : Driving) (start 
   not_made x from old asked (inr (inr (inl making))) = let no = making.lacks.is in absurd (cc)
   not_made x from old asked (inr (inr (inr it))) = absurd (fills it.start it.is_opened)
 
-  found_there : (x : D) → Finds means j x → x ≡ start
-  found_there x (old, asked, inl there) =
-      let is : ◌≡◌ {A = Result D JobFault} (Ok x) (Ok there.start) = there.is in
+  found_there : (x : D) → j.image ≡ None → Finds means j x → x ≡ start
+  found_there x none (old, asked, inl there) =
+      let compared = subst (λ (image : Option (List ℕ)). Compares d means.images image there.start (with_disk old (opened j.disk)) asked (Ok x)) none there.compares in
+      let is : ◌≡◌ {A = Result D JobFault} (Ok x) (Ok there.start) = compared.0 in
       let same : x ≡ there.start = cc in
       same ∙ opens there.start there.is_opened
-  found_there x (old, asked, inr (inl lacks)) = let no = lacks.is in absurd (cc)
-  found_there x (old, asked, inr (inr makes)) = not_made x makes.from _ asked makes.makes
+  found_there x none (old, asked, inr (inl lacks)) = let no = lacks.is in absurd (cc)
+  found_there x none (old, asked, inr (inr makes)) = not_made x makes.from _ asked makes.makes
 
 -- ONE RUN
 
@@ -176,7 +178,7 @@ module _ {S D W : Type 0} {d : Ghosts D} (reach : S → Reach d W) (words : List
         let r = came_here.0.run in
         let i = has_input d it.others asked.input ran.gives.longer (record { disk = r.start; intake = r.intake }) j.input asked.with_input j.input_from came_here.0.looked came_here.0.before came_here.0.asked came_here.0.supplies in
         record {
-          found_disk = found_there (means_in it ran.old ran.new j) j disk (ran.gives.disks j.disk) (ran.gives.fills j.disk _) came_here.0.found f.finds;
+          found_disk = found_there (means_in it ran.old ran.new j) j disk (ran.gives.disks j.disk) (ran.gives.fills j.disk _) came_here.0.found asked.without_image f.finds;
           found_output = came_here.0.onto ∙ ran.gives.outputs asked.output came_here.0.output came_here.0.is_opened;
           disk_honest = honest r.after.disk;
           output_honest = honest r.end;

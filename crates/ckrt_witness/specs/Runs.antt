@@ -1,5 +1,5 @@
 -- What meets the premises of the promise of many drives from the words on.
-use Rattle.std.specs.Prelude.{◌≡◌, ◌≢◌, ℕ, List, [], ◌∷◌, Some}
+use Rattle.std.specs.Prelude.{◌≡◌, ◌≢◌, ℕ, List, [], ◌∷◌, None, Some}
 use Rattle.ckrt_disk.specs.declared.disk.Disk.{Ghosts}
 use Rattle.ckrt_cli_faults.specs.Outside.{Outside}
 use Rattle.ckrt_cli.specs.Performing.{Reach, RunsWords, Said}
@@ -10,7 +10,7 @@ use Rattle.ckrt_cli_words.specs.Jobs.{Driving, drive, request_of_words}
 use Rattle.ckrt_cli_theorem.specs.Commands.{DriveIn, GoOn, Paths, Run, drive_in}
 use Rattle.ckrt_witness.specs.Drives.{IsReopened}
 
--- words ask for a drive, with its output and its input in files
+-- words ask for a drive of a disk that is there, with its output and its input in files
 pub record AsksDrive (words : List (List ℕ)) : Type 0 where
   pub driving : Driving
   pub asks : request_of_words words ≡ Some (drive driving)
@@ -18,6 +18,7 @@ pub record AsksDrive (words : List (List ℕ)) : Type 0 where
   pub to : driving.output ≡ Some output
   pub input : List ℕ
   pub with_input : driving.input ≡ Some input
+  pub without_image : driving.image ≡ None
 
 -- Sources give this disk, this output, and an input with these bytes, whatever they are asked for; they fill no disk and make none longer.
 pub record GivesThree {D W : Type 0} {d : Ghosts D} (it : Reach d W) (disk output : D)

@@ -36,14 +36,17 @@ const ENOUGH: u8 = 5;
 
 const ENDED: u8 = 0;
 
-/// The words ask for a drive, with its output and its input in files.
+/// The words ask for a drive of a disk that is there, with its output and its input in files.
 fn expect_drive<'a, R: Abort + AllocGlobal>(rt: &R, words: &'a [&'a str])
     ensures { AsksDrive (map (λ s. s.now) words.entry.now) }
 {
     match read_words(rt.alloc(), words) {
         Ok(Job::Drive(job)) => match job.output {
             Some(_) => match job.input {
-                Some(_) => {}
+                Some(_) => match job.image {
+                    Some(_) => panic!(rt; "the words have an image"),
+                    None => {}
+                },
                 None => panic!(rt; "the words have no input"),
             },
             None => panic!(rt; "the words have no output"),

@@ -1,5 +1,5 @@
 //! Runs that are made by their words, as the promise of many drives from the words on speaks of them.
-ghost use Rattle.std.specs.Prelude.{ℕ, List};
+ghost use Rattle.std.specs.Prelude.{ℕ, List, []};
 ghost use Rattle.ckrt_stored.specs.Programs.{Program};
 ghost use Rattle.ckrt_witness.specs.Runs.{RanTwice, RunsWitness};
 
