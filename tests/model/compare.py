@@ -18,11 +18,14 @@ from cases.glances import OF_BYTES, OF_KIT, OF_ORDERS, RacesCase, TimelinesCase,
 from cases.halts import HaltsCase, difference_of_halts
 from cases.histories import HistoriesCase, is_turned
 from cases.hunted import HuntsCase, difference_of_hunts
+from cases.images import ImagesCase, difference_of_images
 from cases.inputs import InputsCase, difference_of_inputs
 from cases.kinds import KINDS, Case, case_of
 from cases.lived import LivedCase, difference_of_lived
+from cases.many import ManyCase, difference_of_many
 from cases.mixed import MixedCase, difference_of_mixed
 from cases.moved import MovedCase, difference_of_moved
+from cases.nested import NestedCase
 from cases.profiled import ProfilesCase, difference_of_profiles
 from cases.raced import RacedCase, difference_of_raced
 from cases.stepped import SteppedCase, difference_of_stepped
@@ -30,7 +33,7 @@ from cases.streams import joined
 from cases.timed import TimedCase, difference_of_timed
 from cases.traced import CutCase, ListingsCase, LivesCase, TracedCase
 from cases.traced_runs import difference_of_cut, difference_of_lists, difference_of_traced
-from cases.words import NAMED, NAMES, WordsCase
+from cases.words import NAMED, NAMES, OWN_NAMES, WordsCase
 from model.abi import KEY_CALLS, Call
 from model.call_lines import History, kind_of_line, lines_before_refused
 from model.layout import Geometry, format_disk
@@ -236,7 +239,7 @@ def difference_of_words(ckrt, case, folder, tally):
     """In a folder with a disk, a fitting image, one that is too long, and a folder; nothing is read from standard input."""
     contents, image = bytes(format_disk(Geometry(16, 1, 4096), b"")), bytes(4)
     long = bytes(4096 * 1024)
-    for name, data in (("disk", contents), ("image", image), ("long", long), (NAMES[0], NAMES[1].encode())):
+    for name, data in (("disk", contents), ("image", image), ("long", long), (NAMES[0], NAMES[1].encode()), (OWN_NAMES[0], OWN_NAMES[1].encode())):
         (folder / name).write_bytes(data)
     (folder / "missing").unlink(missing_ok=True)
     (folder / "folder").mkdir(exist_ok=True)
@@ -323,16 +326,17 @@ def difference_behind_cut(ckrt, case, path, tally):
 OF_DISK = {
     MovedCase: difference_of_moved, SteppedCase: difference_of_stepped, LivedCase: difference_of_lived, DebuggedCase: difference_of_debugged,
     ListingsCase: difference_of_listings, HistoriesCase: difference_of_histories, TimelinesCase: difference_of_timelines,
-    ProfilesCase: difference_of_profiles, RacesCase: difference_of_races, CutCase: difference_behind_cut,
+    ProfilesCase: difference_of_profiles, RacesCase: difference_of_races, NestedCase: difference_of_races, CutCase: difference_behind_cut,
 }
 OF_FOLDER = {
     FormatCase: difference_of_format, TimedCase: difference_of_timed, RacedCase: difference_of_raced, HuntsCase: difference_of_hunts,
+    ManyCase: difference_of_many,
     WordsCase: difference_of_words,
 }
 OF_DISK_COUNTED = {LivesCase: difference_of_stops, TracedCase: difference_of_fate}
 OF_FOLDER_COUNTED = {
     Case: difference_of_lives, HaltsCase: difference_of_halts, InputsCase: difference_of_inputs, MixedCase: difference_of_mixed,
-    DrivesCase: difference_of_drives,
+    DrivesCase: difference_of_drives, ImagesCase: difference_of_images,
 }
 
 
@@ -427,6 +431,7 @@ def words():
     parser.add_argument("--stop-after", type=int, default=5, help="stop after so many differences (5)")
     parser.add_argument("--keys", action="store_true", help="the program has thread-specific keys and tables of version 2")
     parser.add_argument("--long-runs", action="store_true", help="the program has long runs, and all of --keys")
+    parser.add_argument("--programs", action="store_true", help="the program's disks note their image, and it has all of --long-runs")
     chosen = parser.parse_args()
     chosen.kinds = chosen.kinds.split(",") if chosen.kinds else list(KINDS)
     unknown = set(chosen.kinds) - set(KINDS)
@@ -437,7 +442,8 @@ def words():
 
 def main():
     chosen = words()
-    SWITCHES.keys, SWITCHES.long_runs = chosen.keys or chosen.long_runs, chosen.long_runs
+    SWITCHES.programs, SWITCHES.long_runs = chosen.programs, chosen.programs or chosen.long_runs
+    SWITCHES.keys = chosen.keys or SWITCHES.long_runs
     folder = Path(chosen.folder or tempfile.mkdtemp(prefix="compare-"))
     folder.mkdir(parents=True, exist_ok=True)
     totals = Totals()

@@ -7,7 +7,7 @@ from cases.streams import random_lines
 from model.abi import ALL_ONES
 from model.devices import MemoryDisk
 from model.events import Eof, Input, Place, Run, RunLong, Tick
-from model.layout import CLOSED, COUNTERS, HEADER_AT, OPEN, TABLES_AT, Geometry, Header, format_disk, fresh_tables, header_of
+from model.layout import CLOSED, COUNTERS, HEADER_AT, NOTE_END, OPEN, TABLES_AT, Geometry, Header, format_disk, fresh_tables, header_of
 from model.lines import serve_disk
 from model.recovery import Unrecovered, unmade
 from model.session import Session
@@ -44,6 +44,7 @@ class Damage:
         kinds = [self.superblock, self.header, self.second_header, self.second_area, self.journal_byte, self.journal_tail,
                  self.journal_tail, self.stopped_commit, self.wrong_length, self.full_journal, self.tables, self.page,
                  self.journal_end, self.unread_bytes]
+        kinds += [self.note, self.without_note] if SWITCHES.programs else []
         for kind in chance.choices(kinds, k=chance.choice([1, 1, 2])):
             kind()
             if kind == self.wrong_length:
@@ -55,6 +56,15 @@ class Damage:
     def superblock(self):
         at = self.chance.choice([0, 8, 12, 15, 16, 17, 20, 21, 22, 24, 25, 28, 29, 30])
         self.disk[at] = self.chance.choice([0, 1, 2, 8, 9, 15, 16, 17, 0x10, 0x20, 255, OPEN, OPEN - 1])
+
+    def note(self):
+        """Bytes of it, from the digest's first to the length's last."""
+        for at in self.chance.sample([32, 63, 64, 71, self.chance.randrange(32, 72)], 2):
+            self.disk[at] = self.chance.randrange(256)
+
+    def without_note(self):
+        """A superblock of version 1, in which the same bytes are no fields; or of one that there isn't."""
+        self.disk[16] = self.chance.choice([1, 1, 1, 0, 2, 4])
 
     def header(self, area=0):
         at = self.chance.choice([0, 8, 8, 15, 16, 20, 23, 24, 28, 31, 32, 33, 34, 36, 36, 37, 39])
@@ -147,7 +157,7 @@ class Damage:
     def unread_bytes(self):
         """Those of the superblock, the header and behind the tables that mean nothing."""
         first, behind = self.areas[0], TABLES_AT + self.tables_length
-        for at in (1, 7, 32, 4095, first + 1, first + 7, first + 40, first + behind, first + TABLES_AT + 4000):
+        for at in (1, 7, NOTE_END if SWITCHES.programs else 32, 4095, first + 1, first + 7, first + 40, first + behind, first + TABLES_AT + 4000):
             self.disk[at] = self.chance.randrange(256)
 
 

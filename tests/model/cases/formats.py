@@ -2,11 +2,11 @@
 from dataclasses import dataclass
 
 from model.devices import MemoryDisk
-from model.layout import MAGIC, OPEN, Geometry, Unformatted, format_disk, format_onto, refusal_of_format
+from model.layout import MAGIC, MAKING, OPEN, Geometry, Unformatted, format_disk, format_onto, refusal_of_format
+from model.switches import SWITCHES
 
 SMALLEST = Geometry(16, 1, 4096)
 GATE, NAME = slice(0, 8), slice(8, 16)  # of a file: its gate with the bytes behind it, and where a disk has its name
-MAKING = b"CKRTMAKE"  # the name of a file that is in the making
 
 
 def is_disk_already(before, size):
@@ -35,7 +35,7 @@ class FormatCase:
             return refusal, self.before
         before = self.before or b""
         if not is_disk_already(before, self.geometry.size) and not may_be_written(before, self.geometry.size):
-            return "File", self.before
+            return "NotADisk" if SWITCHES.programs else "File", self.before
         kept = before if len(before) >= SMALLEST.size else b""
         contents = bytearray(kept.ljust(self.geometry.size, b"\0"))
         try:

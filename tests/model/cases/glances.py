@@ -5,7 +5,10 @@ import subprocess
 from dataclasses import dataclass
 
 from cases.histories import disk_with_stretches, is_turned
+from model.beneath import BLANKS, lines_told
+from model.callers import text_of_names
 from model.columns import is_dense
+from model.layout import note_of
 from model.listing import OutOfRange
 from model.other_rules import AS_ONE, BEFORE_STORES, BEHIND_LOADS, BOTH_SIDES, GIVEN_LATER, LOADS_ORDER, STAYS, STORES_ORDER
 from model.pictures import difference_of_picture
@@ -109,6 +112,8 @@ def difference_of_races(ckrt, case, path, tally):
     """None, or where the two differ on a stretch; what the page leaves open isn't compared. The disk's file keeps its bytes."""
     path.write_bytes(case.disk())
     recording, unrecovered = recording_of(case.contents)
+    rows = getattr(case, "rows", ())
+    options = names_beside(path, case, rows) if rows else []
     for stretch in case.stretches:
         readings, fault = shown(recording, unrecovered, stretch, Readings())
         lines = readings.lines() if readings else []
@@ -118,9 +123,12 @@ def difference_of_races(ckrt, case, path, tally):
         tally.update(("line of races", kind_of_race(line)) for line in lines)
         if readings:
             tell_met(readings, lines, tally)
-        expected = fault or Glance(0, "".join(line + "\n" for line in lines))
-        got = glance_of_program(ckrt, "races", path, stretch)
-        if got != expected:
+        narrow, wide = lines_told(recording, readings, stretch, rows) if readings else ([], [])
+        tally["block of a race", "left open" if narrow != wide else "compared"] += 1
+        tally.update(("line beneath a race", kind_of_beneath(line)) for line in narrow if line.startswith(BLANKS))
+        got = glance_of_program(ckrt, "races", path, stretch, *options)
+        expected, other = [fault or glance_of_lines(lines) for lines in (narrow, wide)]
+        if got not in (expected, other):
             return f"races (from, to {stretch}): {place_of_difference(expected, got)}"
     return None if path.read_bytes() == case.contents else "races changed the disk's bytes"
 
@@ -145,6 +153,22 @@ def kind_of_race(line):
     """Who stores and who loads, or the first word of another line."""
     kinds = re.findall(r"(?:stores|loads)(?: atomically)?", line)
     return ", ".join(kinds) or line.split()[0]
+
+
+def names_beside(path, case, rows):
+    """A file of names with these rows, of the program that the disk notes; answers the words for it."""
+    file = path.with_name("rows")
+    file.write_text(text_of_names(*note_of(case.contents), rows))
+    return ["--names", file]
+
+
+def glance_of_lines(lines):
+    return Glance(0, "".join(line + "\n" for line in lines))
+
+
+def kind_of_beneath(line):
+    """Its first words that are neither a position nor a number."""
+    return re.sub(r" *(?:\d+\+\d+ thread \d+ )?(holds \w+|called|in a block).*?( to \w+)?$", r"\1\2", line)
 
 
 def place_of_difference(expected, got):

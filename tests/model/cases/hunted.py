@@ -145,7 +145,7 @@ def difference_of_said(ckrt, case, folder, lines):
     return None
 
 
-REFUSED = ["taken", "link", "made/", "none/", "image/", "none/disk", "image/disk", "made"]
+REFUSED = ["taken", "link", "made/", "none/", "image/", "none/disk", "image/disk", "made", "other", "others/"]
 
 
 def listed(folder):
@@ -157,7 +157,8 @@ def difference_of_refused(ckrt, case, folder, tally):
     """Where no disk can be made, that is told before anything is opened: there is no such image. Nothing is left, nor touched."""
     place = folder / "refused"
     (place / "made").mkdir(parents=True)
-    for name in ("taken", "taken.making", "image", "made/outcome-1.disk", "made/outcome-1.disk.making"):
+    (place / "others").mkdir()
+    for name in ("taken", "taken.making", "image", "made/outcome-1.disk", "made/outcome-1.disk.making", "other.making", "others/outcome-1.disk.making"):
         (place / name).write_bytes(b"something")
     (place / "link").symlink_to("nowhere")
     before, words = listed(place), [*case.options.words().split(), "--seeds", f"{case.seeds[0]}-{case.seeds[-1]}"]

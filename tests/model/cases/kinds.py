@@ -15,12 +15,15 @@ from cases.guests import Guest
 from cases.halts import halts_case
 from cases.histories import histories_case
 from cases.hunted import hunts_case
+from cases.images import images_case
 from cases.inputs import inputs_case
 from cases.kitted import Kitted, kit_case
 from cases.limits import limit_case
 from cases.lived import Living, lived_case
+from cases.many import many_case
 from cases.mixed import mixed_case
 from cases.moved import moved_case
+from cases.nested import nested_case
 from cases.passers import orders_case
 from cases.profiled import profiles_case
 from cases.raced import raced_case
@@ -249,14 +252,14 @@ KINDS = {
     "disks": disks_case, "killed": killed_case, "limits": limits_case, "saved": saved_case, "tables": tables_case,
     "stopped": stopped_case, "checkpoints": checkpoints_case, "formats": format_case, "lists": of_guest(lists_case),
     "fates": of_guest(fates_case), "parts": of_guest(parts_case), "listings": of_guest(listings_case), "cuts": cuts_case,
-    "histories": of_guest(histories_case), "races": of_guests(PartSharer, races_case, 0.9), "kit": kitted_case, "orders": orders_case,
+    "histories": of_guest(histories_case), "races": of_guests(PartSharer, races_case, 0.9), "kit": kitted_case, "orders": orders_case, "nested": nested_case,
     "timelines": of_sharers(timelines_case, 0.4),
     "hunts": hunts_case, "debugged": of_sharers(debugged_case, 0.4), "moved": of_sharers(moved_case, 0.6),
     "stepped": of_sharers(stepped_case, 0.6),
     "profiles": profiled_case, "dense": of_guests(Weaver, dense_case, 1),
-    "lived": of_guests(Living, lived_case, 1), "timed": timed_case, "raced": raced_case,
+    "lived": of_guests(Living, lived_case, 1), "timed": timed_case, "raced": raced_case, "many": many_case,
     "words": words_case, "drives": of_guest(drives_case), "halts": of_guest(halts_case),
-    "inputs": of_guest(inputs_case), "mixed": of_guest(mixed_case), "rounds": rounds_case,
+    "inputs": of_guest(inputs_case), "images": of_guest(images_case), "mixed": of_guest(mixed_case), "rounds": rounds_case,
 }
 
 

@@ -2,11 +2,12 @@
 seeds, with races and without, and a disk for each outcome."""
 from dataclasses import dataclass, replace
 
-from cases.glances import Glance, glance_of_program, kind_of_race
+from cases.glances import glance_of_lines, glance_of_program, kind_of_race
 from cases.hunted import HuntsCase, hunt, hunts_case, kept_run
 from model.abi import Call
 from model.assembler import Label, Program, call_words, image_of, immediate_form, load_number, store_form
-from model.hunts import line_of_kept, lines_of_table, said_of, status_of, told_of
+from model.beneath import lines_told
+from model.hunts import line_of_kept, lines_of_table, rows_of_outcomes, said_of, shown_of, status_of
 from model.race_rows import lines_of_races
 from model.races import Readings
 
@@ -98,12 +99,12 @@ def difference_of_told(shown, runs, options, kept=()):
     return f"model {narrow[0]} {unlike[0]!r}, program {status} {unlike[1]!r}"
 
 
-def difference_of_glance(ckrt, disk, readings):
-    """The disk has the very races that are told of its seed."""
-    lines = readings.lines()
-    got = glance_of_program(ckrt, "races", disk, (None, None))
-    is_so = lines is None or got == Glance(0, "".join(line + "\n" for line in lines))
-    return None if is_so else f"races of its disk: model {lines}, program {got}"
+def difference_of_glance(ckrt, disk, recording, readings):
+    """The disk has the very races that are told of its seed, with what stands beneath them."""
+    if readings.lines() is None:
+        return None
+    told, got = lines_told(recording, readings), glance_of_program(ckrt, "races", disk, (None, None))
+    return None if got in map(glance_of_lines, told) else f"races of its disk: model {told[0]}, program {got}"
 
 
 def difference_of_drawn(ckrt, case, folder, seed):
@@ -114,13 +115,13 @@ def difference_of_drawn(ckrt, case, folder, seed):
     disk = folder / "kept"
     run = Run(kept.outcome, kept.folded.switches, kept.recording.show(Readings()), disk.read_bytes(), said_of(kept.folded))
     told = [line_of_kept(seed, "kept", run.switches, None)]
-    return run, difference_of_told((kept.status, kept.lines), {seed: run}, case.options, told) or difference_of_glance(ckrt, disk, run.readings)
+    return run, difference_of_told((kept.status, kept.lines), {seed: run}, case.options, told) or difference_of_glance(ckrt, disk, kept.recording, run.readings)
 
 
 def difference_of_folder(ckrt, case, folder, runs):
     """Each outcome gets a disk, with the drawn run of the first seed that came to it. The folder is taken away."""
-    first = {run.outcome: seed for seed, run in reversed(runs.items())}
-    wanted = {f"folder/outcome-{number}.disk": seed for number, seed in enumerate(map(first.get, told_of(first)), 1)}
+    shown = shown_of(rows_of_outcomes({seed: run.outcome for seed, run in runs.items()}))
+    wanted = {f"folder/outcome-{number}.disk": row.first for number, row in shown.items()}
     (folder / "folder").mkdir()
     told = [line_of_kept(seed, path, runs[seed].switches, None) for path, seed in wanted.items()]
     difference = difference_of_told(hunt(ckrt, folder, case.seeds, case.options, "--keep", "folder/"), runs, case.options, told)

@@ -2,6 +2,7 @@
 from dataclasses import dataclass
 
 from model.layout import Geometry, refusal_of_format
+from model.switches import SWITCHES
 
 DEFAULTS = {"pages": 64, "harts": 1, "journal": 65536}
 OPTIONS = {"format": DEFAULTS, "run": {}, "inspect": {"at": None, "code": None}, "calls": {"from": None, "to": None}}
@@ -19,6 +20,7 @@ NAMED = {"inspect": ["disk"], "calls": ["disk"], "races": ["disk"], "timeline": 
          "hunt": ["image", "--seeds", "1-1"], "drive": ["disk"]}
 NAMELESS = {"format": ["disk", "image"], "run": ["disk"], "debug": ["disk"]}
 NAMES = "names", "ckrt-names 1 " + 64 * "0" + " 00000004\n"  # a file without a row, of another image than the one that is there
+OWN_NAMES = "own", "ckrt-names 1 e3b0c44298fc1c149afbf4c8996fb92427ae41e4649b934ca495991b7852b855 00000000\n"  # of the disk, made with an empty image
 NO_NAMES = ["missing", "missing", "folder", "image"]
 
 
@@ -33,8 +35,9 @@ class WordsCase:
     names: str | None = None
 
     def are_names_refused(self):
-        """Of a disk any will do; of an image its own."""
-        return self.names in NO_NAMES or (self.names is not None and self.command == "hunt")
+        """Of a disk its own will do, or any where it doesn't note its program; of an image its own."""
+        is_foreign = self.names == NAMES[0] and SWITCHES.programs
+        return self.names in NO_NAMES or is_foreign or (self.names is not None and self.command == "hunt")
 
     def asks_for_usage(self):
         return self.words[1:] == ["--help"]
@@ -103,7 +106,8 @@ def named_words(chance):
     command = chance.choice(list(NAMED))
     if kind < 0.3:
         return WordsCase([command, *NAMED[command], "--names"])
-    names = chance.choice([*NO_NAMES, *[NAMES[0]] * (2 if command in ("inspect", "calls", "races", "hunt") else 0)])
+    others = [NAMES[0], OWN_NAMES[0] if SWITCHES.programs else NAMES[0]] if command in ("inspect", "calls", "races", "hunt") else []
+    names = chance.choice([*NO_NAMES, *others])
     words = [command, *NAMED[command], *chance.choice([["--names", names], [f"--names={names}"]])]
     return WordsCase(words, command, tuple(NAMED[command][:1]), dict(OPTIONS.get(command, {})), names)
 

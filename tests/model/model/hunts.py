@@ -4,17 +4,22 @@ from copy import deepcopy
 from dataclasses import dataclass, field
 from hashlib import sha256
 
+from model.devices import MemoryDisk
 from model.events import Eof, Input, Run
 from model.feeding import next_input
+from model.layout import MAGIC, MAKING, SUPERBLOCK_AT
 from model.listing import CAUSES, address_text
 from model.machine import Machine
 from model.processor import Cause
+from model.recovery import Unrecovered, recover
 from model.threads import Status, WaitKind
 
 DIGITS = 8  # of a digest
 SAID = "    said: "
 LINE_BYTES = 200  # of the last line of a run, that are shown
-MOST_OUTCOMES = 64  # of a kind, that have lines of their own
+MOST_OUTCOMES = 64  # of a kind, that are told apart
+MOST_OUTPUTS = 3  # of `exit 0`, that have lines of their own without --rows
+MOST_SEEDS = 10  # of an outcome, whose runs are shortened
 KINDS = "fault", "deadlock", "exit ", "no end", "waits for input", "exit 0"  # by what an outcome's text begins with, in the order of a table
 SEVERAL = 8  # the status where there are several outcomes, or a race
 BAD = 9  # that where all runs had one outcome, which isn't `exit 0`
@@ -159,24 +164,55 @@ def kind_of(outcome):
 
 
 def told_of(first):
-    """The outcomes that have lines of their own, in their order, of each of which the first seed is given: by kinds, and of a kind those that
-    came first."""
+    """The outcomes that are told apart, in their order, of each of which the first seed is given: by kinds, and of a kind those that came
+    first."""
     kinds = [sorted((outcome for outcome in first if kind_of(outcome) == kind), key=first.get) for kind in range(len(KINDS))]
     return [outcome for kind in kinds for outcome in kind[:MOST_OUTCOMES]]
 
 
-def lines_of_table(image, outcomes, options, said=None):
+@dataclass(frozen=True)
+class Row:
+    """An outcome that is told apart: how many runs came to it, by which seed first, and what that one's run said."""
+    count: int
+    first: int
+    text: str
+    said: str | None = None
+
+    @property
+    def is_output(self):
+        return kind_of(self.text) == len(KINDS) - 1
+
+
+def rows_of_outcomes(outcomes, said=None):
+    """Of the outcomes by seed, in the order of the seeds."""
+    first, counts = {outcome: seed for seed, outcome in reversed(outcomes.items())}, Counter(outcomes.values())
+    return [Row(counts[outcome], first[outcome], outcome, (said or {}).get(first[outcome])) for outcome in told_of(first)]
+
+
+def shown_of(rows, has_rows=False):
+    """Those that have lines, by their numbers: all of them, or of more than three outputs of `exit 0` the commonest, which came first among those with
+    as many runs."""
+    outputs = [row for row in rows if row.is_output]
+    shown = outputs if has_rows or len(outputs) <= MOST_OUTPUTS else sorted(outputs, key=lambda row: (-row.count, row.first))[:MOST_OUTPUTS]
+    return {number: row for number, row in enumerate(rows, 1) if not row.is_output or row in shown}
+
+
+def lines_of_rows(image, rows, total, options, has_rows=False):
+    """Each row that is shown; then how many outputs there are, where not all of them are; then how many runs have an outcome that isn't told apart."""
+    shown, lines = shown_of(rows, has_rows), []
+    for number, row in shown.items():
+        lines += [f"outcome {number}: {row.count} of {total} runs, first by seed {row.first}: {row.text}", *lines_of_said(row.said),
+                  f"    {command_of(image, row.first, options)}"]
+    outputs, left = [row.count for row in rows if row.is_output], total - sum(row.count for row in rows)
+    if len(shown) < len(rows):
+        lines.append(f"outputs of exit 0: {len(outputs)} in {sum(outputs)} of {total} runs, the three commonest above")
+    return lines + [f"other outcomes: {left} of {total} runs"] * (left > 0)
+
+
+def lines_of_table(image, outcomes, options, said=None, has_rows=False):
     """Of the outcomes by seed, in the order of the seeds: each outcome once, with how often it came and by which seed first, and what that seed's
-    run said, where it is given; then how many runs all others have."""
-    first = {outcome: seed for seed, outcome in reversed(outcomes.items())}
-    counts, lines = Counter(outcomes.values()), []
-    told = told_of(first)
-    for number, outcome in enumerate(told, 1):
-        seed = first[outcome]
-        lines += [f"outcome {number}: {counts[outcome]} of {len(outcomes)} runs, first by seed {seed}: {outcome}",
-                  *lines_of_said((said or {}).get(seed)), f"    {command_of(image, seed, options)}"]
-    left = len(outcomes) - sum(counts[outcome] for outcome in told)
-    return lines + [f"other outcomes: {left} of {len(outcomes)} runs"] * (left > 0)
+    run said, where it is given."""
+    return lines_of_rows(image, rows_of_outcomes(outcomes, said), len(outcomes), options, has_rows)
 
 
 def status_of(outcomes, found=()):
@@ -185,6 +221,19 @@ def status_of(outcomes, found=()):
     if len(set(outcomes)) > 1 or any(races.pairs for races in found):
         return SEVERAL
     return 0 if kinds == {"exit 0"} else BAD
+
+
+def is_in_making(contents):
+    """Whether a file is empty, has the mark of a disk that is made or a disk's name behind a closed gate, or is a disk whose program hasn't begun."""
+    is_marked = not contents or contents[:SUPERBLOCK_AT] == bytes(SUPERBLOCK_AT) and contents[SUPERBLOCK_AT:].startswith((MAKING, MAGIC))
+    return is_marked or has_no_event(contents)
+
+
+def has_no_event(contents):
+    try:
+        return recover(MemoryDisk(bytearray(contents))).events == 0
+    except Unrecovered:
+        return False
 
 
 def refusal_of_keep(path, folder):
@@ -196,9 +245,26 @@ def refusal_of_keep(path, folder):
         return f"the disk {disk}: its folder is missing; make it, or give another path"
     if place.is_symlink() or place.exists():
         return f"the disk {disk}: something has this path already; move that away, or give another path"
+    making = place.with_name(place.name + ".making")
+    if making.exists() and not is_in_making(making.read_bytes()):
+        return (f"the disk {disk}: what has this path with .making behind it is no disk in the making, and is unchanged; move it away, then give the "
+                "command again")
     return None
 
 
-def line_of_kept(seed, path, switches, drawn):
-    """`drawn` is how many switches the drawn run has; None where that is the one that is kept."""
-    return f"kept: the run of seed {seed} on {path}, switches: {switches}, {'as it was drawn' if drawn is None else f'drawn with {drawn}'}"
+def line_of_kept(seed, path, switches, drawn, among=1):
+    """`drawn` is how many switches the drawn run has; None where that is the one that is kept. `among` is of how many seeds it has the fewest."""
+    how = "as it was drawn" if drawn is None else f"drawn with {drawn}"
+    return f"kept: the run of seed {seed} on {path}, switches: {switches}, {how}" + (f", fewest of {among} seeds" if among > 1 else "")
+
+
+def is_chosen(seed, switches, among, alone):
+    """Whether a run may be kept among those of so many seeds: `alone` has, of the seeds of an outcome in their order, how many switches each one's
+    run has where it is kept by itself. All but the last of these seeds had what tries they needed, since another was begun behind them."""
+    if not 1 <= among <= min(MOST_SEEDS, len(alone)):
+        return False
+    *whole, (last, fewest_of_last) = list(alone.items())[:among]
+    fewest, best = min(((count, other) for other, count in whole), default=(None, None))
+    if seed == last and (fewest is None or fewest_of_last <= switches < fewest):
+        return among > 1 or switches == fewest_of_last
+    return (seed, switches) == (best, fewest)

@@ -5,20 +5,24 @@ with a header, tables and pages, then two journals.
 """
 import struct
 from dataclasses import dataclass, field
+from hashlib import sha256
 
 from model.abi import PAGE
 from model.devices import MemoryDisk
 from model.processor import Memory
-from model.switches import newest_version
+from model.switches import SWITCHES, newest_superblock, newest_version
 from model.tables import encode_tables
 from model.threads import State
 
 OPEN, CLOSED = 0xA5, 0
 MAGIC = b"CKRTDISK"
-VERSION = 1  # of the superblock
+MAKING = b"CKRTMAKE"  # in the place of that, in a file that is in the making
 SUPERBLOCK_AT = 8
 SUPERBLOCK = struct.Struct("<8sIIII")  # magic, version, pages, harts, length of a journal
 SUPERBLOCK_END = SUPERBLOCK_AT + SUPERBLOCK.size
+NOTED = 3  # the version of a superblock that notes its image
+NOTE = struct.Struct("<32sQ")  # digest and length of the image, behind the other fields
+NOTE_END = SUPERBLOCK_END + NOTE.size
 HEADER_AT = 8
 HEADER = struct.Struct("<QQQII")  # generation, events, offset of the held output, length of the tables, version
 TABLES_AT = 4096
@@ -112,11 +116,32 @@ def fresh_tables(pages, version=None):
     return encode_tables(state, b"", version)
 
 
+def superblock_of(geometry, image, version):
+    """The fields."""
+    note = NOTE.pack(sha256(image).digest(), len(image)) if version == NOTED else b""
+    return SUPERBLOCK.pack(MAGIC, version, geometry.pages, geometry.harts, geometry.journal) + note
+
+
+def note_of(contents):
+    """Digest and length of the image that a disk was formatted with; None where its program is unknown. Nothing but formatting writes them, and
+    recovery doesn't read them."""
+    is_known = SWITCHES.programs and len(contents) >= NOTE_END and contents[0] == OPEN
+    if not is_known or SUPERBLOCK.unpack_from(contents, SUPERBLOCK_AT)[:2] != (MAGIC, NOTED):
+        return None
+    return NOTE.unpack_from(contents, SUPERBLOCK_END)
+
+
+def differs(contents, image):
+    """Whether a disk is known to be another program's than the image's."""
+    return note_of(contents) not in (None, (sha256(image).digest(), len(image)))
+
+
 def format_onto(disk, geometry, image, version=None):
     """Area 0 with the fresh state, all gates but its own closed, and the superblock's gate last of all.
 
-    An older version is that of a disk which an older program wrote.
+    An older version is that of a disk which an older program wrote, whose superblock notes nothing.
     """
+    superblock = newest_superblock() if version is None else 1
     version = version or newest_version()
     refusal = refusal_of_format(len(disk), geometry, image)
     if refusal is None:
@@ -130,7 +155,7 @@ def format_onto(disk, geometry, image, version=None):
     write_contents(disk, geometry, 0, Header(1, 0, 0, len(tables), version), tables, memory)
     write_gate(disk, geometry.journal_at(0), CLOSED)
     write_gate(disk, geometry.area_at(1), CLOSED)
-    disk.write(SUPERBLOCK_AT, SUPERBLOCK.pack(MAGIC, VERSION, geometry.pages, geometry.harts, geometry.journal))
+    disk.write(SUPERBLOCK_AT, superblock_of(geometry, image, superblock))
     disk.sync()
     write_gate(disk, 0, OPEN)
     disk.sync()

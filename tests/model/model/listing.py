@@ -1,5 +1,6 @@
 """The inspector's listing of what a disk recovers to."""
 from model.devices import MemoryDisk
+from model.layout import note_of
 from model.objects import MutexKind
 from model.processor import Cause
 from model.recovery import events_of_journal, read_area, recover
@@ -126,6 +127,12 @@ def earlier_state(disk, whole, at):
     return found
 
 
+def lines_of_note(contents):
+    """What tells of the disk, and not of the state: which image it was formatted with."""
+    note = note_of(contents)
+    return [] if note is None else [f"program {note[0].hex()} {note[1]}"]
+
+
 def listing(contents, at=None, is_with_code=False):
     """The text, of the state after `at` events or after all of them. Raises Unrecovered, or OutOfRange where the disk
     recovers and has no such state."""
@@ -133,4 +140,5 @@ def listing(contents, at=None, is_with_code=False):
     found = recover(disk)
     if at is not None:
         found = earlier_state(disk, found, at)
-    return "".join(line + "\n" for line in lines_of_state(found.events, found.machine, found.geometry.harts, is_with_code))
+    lines = lines_of_state(found.events, found.machine, found.geometry.harts, is_with_code)
+    return "".join(line + "\n" for line in [*lines, *lines_of_note(contents)])

@@ -5,13 +5,15 @@ from dataclasses import dataclass
 
 @dataclass
 class Switches:
-    """`keys`: thread-specific keys, and saved tables of version 2. `long_runs`: the event of a long run, with keys alone."""
+    """`keys`: thread-specific keys, and saved tables of version 2. `long_runs`: the event of a long run, with keys alone. `programs`: disks that
+    note their image, and what is told by that; with long runs alone."""
     keys: bool = False
     long_runs: bool = False
+    programs: bool = False
 
     def words(self):
         """The driver's options."""
-        return [word for word, is_on in (("--keys", self.keys), ("--long-runs", self.long_runs)) if is_on]
+        return [word for word, is_on in (("--keys", self.keys), ("--long-runs", self.long_runs), ("--programs", self.programs)) if is_on]
 
 
 SWITCHES = Switches()
@@ -24,6 +26,15 @@ def newest_version():
 
 def known_versions():
     return range(1, newest_version() + 1)
+
+
+def newest_superblock():
+    """The version of the superblock that `format` writes."""
+    return 3 if SWITCHES.programs else 1
+
+
+def known_superblocks():
+    return {1, newest_superblock()}
 
 
 @contextmanager

@@ -7,10 +7,11 @@ from dataclasses import replace
 from functools import lru_cache
 
 from cases.glances import Glance
+from model.beneath import lines_told
 from model.devices import MemoryDisk
 from model.events import Place, Run
 from model.feeding import next_input, taken_by
-from model.hunts import command_of, fold, line_of_kept, lines_of_table, said_of, text_of_outcome, told_of
+from model.hunts import command_of, fold, line_of_kept, lines_of_table, rows_of_outcomes, said_of, shown_of, text_of_outcome, told_of
 from model.layout import Geometry, format_disk
 from model.plans import Options as Plan, next_event
 from model.races import PAIRS, Races, Readings, text_of_access, text_of_pair
@@ -55,6 +56,13 @@ def folded(disk):
 @lru_cache(maxsize=None)
 def races_of(disk):
     return Recording(bytearray(disk)).show(Readings()).narrow
+
+
+@lru_cache(maxsize=None)
+def lines_of_races(disk):
+    """With what stands beneath each."""
+    recording = Recording(bytearray(disk))
+    return lines_told(recording, recording.show(Readings()))[0]
 
 
 class Row:
@@ -138,9 +146,9 @@ class Hunts:
         return disks[seed]
 
     def keep(self, folder, path, disks, outcomes):
-        first = {outcome: seed for seed, outcome in reversed(outcomes.items())}
-        seeds = list(map(first.get, told_of(first))) if path.endswith("/") else list(disks)[:1]
-        paths = [f"{path}outcome-{number}.disk" if path.endswith("/") else path for number in range(1, len(seeds) + 1)]
+        shown = shown_of(rows_of_outcomes(outcomes))
+        seeds = [row.first for row in shown.values()] if path.endswith("/") else list(disks)[:1]
+        paths = [f"{path}outcome-{number}.disk" for number in shown] if path.endswith("/") else [path]
         for seed, name in zip(seeds, paths):
             (folder / name).write_bytes(self.kept_of(seed, disks))
         return [self.line_of_kept(seed, name, folded(disks[seed]).switches) for seed, name in zip(seeds, paths)]
@@ -149,7 +157,7 @@ class Hunts:
         return line_of_kept(seed, name, switches, None)
 
     def glance(self, ckrt, command, path, stretch):
-        return Glance(0, "".join(line + "\n" for line in races_of(path.read_bytes()).lines()))
+        return Glance(0, "".join(line + "\n" for line in lines_of_races(path.read_bytes())))
 
 
 class CountsRaces(Tally):

@@ -62,6 +62,14 @@ class Driver(unittest.TestCase):
         with switched(keys=True, long_runs=True):
             self.finds_nothing({"lists": 2, "fates": 2, "listings": 2, "lives": 2})
 
+    def test_right_with_programs(self):
+        """Disks that note their program, of both sides or of one alone."""
+        with switched(keys=True, long_runs=True, programs=True):
+            self.finds_nothing({"lists": 1, "listings": 2, "disks": 3})
+            case = case_of("listings", 1)
+            path = program(self.folder, "right", keys=True, long_runs=True)
+            self.assertIsNotNone(first_difference(path, case, self.folder, Counter(), lambda count: None))
+
     def test_right_drives(self):
         with switched(keys=True, long_runs=True):
             self.finds_nothing(KINDS_OF_DRIVES)

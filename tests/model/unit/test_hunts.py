@@ -6,7 +6,7 @@ from pathlib import Path
 
 from model.abi import Call
 from model.events import Eof, Input
-from model.hunts import (Options, fold, is_fed, known_lines, line_of_kept, lines_of_table, refusal_of_keep, said_of, status_of,
+from model.hunts import (Options, fold, is_chosen, is_fed, known_lines, line_of_kept, lines_of_table, refusal_of_keep, said_of, status_of,
                          text_of_outcome)
 from model.races import Pair, Races
 from model.switches import switched
@@ -164,10 +164,47 @@ class Tables(unittest.TestCase):
         """64 of a kind have lines of their own, and no other kind takes them."""
         for count in (64, 65):
             outcomes = {seed: f"exit 0, output {seed % count}" for seed in range(1, 131)} | {131: "deadlock", 132: "exit 1, output 0"}
-            lines = lines_of_table("a.bin", outcomes, Options(16, 2, 99))
+            lines = lines_of_table("a.bin", outcomes, Options(16, 2, 99), has_rows=True)
             others = [] if count == 64 else ["other outcomes: 2 of 132 runs"]
             self.assertEqual((lines[132:], lines[130][:12]), (others, "outcome 66: "), count)
             self.assertEqual(lines[0], "outcome 1: 1 of 132 runs, first by seed 131: deadlock")
+
+    def test_many_outputs(self):
+        """The three commonest, of as many runs those that came first, each by its number; where there are three or `--rows` all."""
+        options = Options(16, 2, 99)
+        counts = {"b": 2, "c": 1, "a": 3, "d": 2, "e": 2}
+        texts = [name for name, count in counts.items() for _ in range(count)]
+        outcomes = {seed: f"exit 0, output {name}" for seed, name in enumerate(texts, 1)} | {11: "deadlock"}
+        lines = lines_of_table("a.bin", outcomes, options)
+        self.assertEqual([line.partition(" runs")[0] for line in lines[::2]],
+                         ["outcome 1: 1 of 11", "outcome 2: 2 of 11", "outcome 4: 3 of 11", "outcome 5: 2 of 11", "outputs of exit 0: 5 in 10 of 11"])
+        self.assertEqual(lines[8:], ["outputs of exit 0: 5 in 10 of 11 runs, the three commonest above"])
+        rows = lines_of_table("a.bin", outcomes, options, has_rows=True)
+        self.assertEqual([line.split(":")[0] for line in rows[::2]], [f"outcome {number}" for number in range(1, 7)])
+        self.assertEqual(len(rows), 12)
+        three = {seed: outcome for seed, outcome in outcomes.items() if outcome[-1] not in "de"}
+        self.assertEqual(lines_of_table("a.bin", three, options), lines_of_table("a.bin", three, options, has_rows=True))
+        others = {seed: text.replace("exit 0", "exit 1") for seed, text in outcomes.items()}
+        self.assertEqual(len(lines_of_table("a.bin", others, options)), 12)
+
+    def test_more_outputs_than_rows(self):
+        """Those that aren't told apart are others, behind the line of outputs."""
+        outcomes = {seed: f"exit 0, output {seed}" for seed in range(1, 67)}
+        lines = lines_of_table("a.bin", outcomes, Options(16, 2, 99))
+        self.assertEqual(lines[6:], ["outputs of exit 0: 64 in 64 of 66 runs, the three commonest above", "other outcomes: 2 of 66 runs"])
+
+    def test_chosen(self):
+        """The fewest switches, of as many the lowest seed; only the last one looked at may have had too few tries."""
+        alone = {3: 9, 5: 4, 6: 4, 8: 2, 9: 7}
+        for seed, switches, among, is_right in [(3, 9, 1, True), (3, 8, 1, False), (5, 4, 1, False), (5, 4, 3, True), (6, 4, 3, False), (5, 4, 2, True),
+                                                (5, 6, 2, True), (5, 9, 2, False), (5, 6, 3, False), (8, 2, 5, True), (8, 3, 5, False), (8, 3, 4, True), (8, 1, 4, False),
+                                                (5, 4, 4, True), (5, 4, 5, False), (8, 2, 6, False), (9, 7, 5, False), (8, 2, 0, False), (3, 9, 2, True)]:
+            self.assertEqual(is_chosen(seed, switches, among, alone), is_right, (seed, switches, among))
+        many = {seed: 20 - seed for seed in range(1, 13)}
+        self.assertTrue(is_chosen(10, 10, 10, many))
+        self.assertFalse(is_chosen(11, 9, 11, many))
+        self.assertEqual(line_of_kept(57, "bugs/outcome-1.disk", 6, 41, 10),
+                         "kept: the run of seed 57 on bugs/outcome-1.disk, switches: 6, drawn with 41, fewest of 10 seeds")
 
     def test_races_asked_for(self):
         """Behind the input, and before what is kept."""

@@ -10,9 +10,9 @@ from unittest.mock import patch
 
 from cases.kinds import case_of
 from cases.raced import Crossing, Run, difference_of_raced, difference_of_told
-from cases.timed import Outcome, TimedCase, difference_of_disks, difference_of_timed, rows_of
+from cases.timed import TimedCase, difference_of_disks, difference_of_timed, rows_of
 from model.accesses import Access
-from model.hunts import Options, fold, line_of_kept, lines_of_table, text_of_outcome
+from model.hunts import Options, Row, fold, line_of_kept, lines_of_table, text_of_outcome
 from model.race_rows import RaceRow, difference_of_rows, lines_of_races, rows_of_races, split_table
 from model.races import Races, Readings
 from model.stretches import Recording
@@ -142,7 +142,7 @@ class ReadBack(unittest.TestCase):
     def test_tables(self):
         table = ["outcome 1: 9 of 9 runs, first by seed 1: exit 0, output 1",
                  "    ckrt hunt image --seeds 1-1 --pages 16 --harts 2 --steps 99 --races --keep seed-1.disk"]
-        found = [Outcome(9, 1, "exit 0, output 1")]
+        found = [Row(9, 1, "exit 0, output 1")]
         self.assertEqual(rows_of(table + self.ROWS, OPTIONS), (found, 9, rows_of_races(self.ROWS, OPTIONS, 9)))
         plain = [line.replace(" --races", "") for line in table]
         self.assertEqual(rows_of(plain, replace(OPTIONS, is_raced=False)), (found, 9, []))
@@ -196,7 +196,7 @@ class Comparison(unittest.TestCase):
         disk = disk_of(1, case.options, case.image, None)
         recording = Recording(bytearray(disk))
         folded, readings = fold(recording), recording.show(Readings())
-        found = [Outcome(1, 1, text_of_outcome(folded, case.options.steps))]
+        found = [Row(1, 1, text_of_outcome(folded, case.options.steps))]
         rows = rows_of_races(lines_of_races("image", {1: readings.narrow}, case.options), case.options, 1)
         timed = TimedCase(case.image, case.options, "kept", 0, None)
 

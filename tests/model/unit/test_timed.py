@@ -1,11 +1,11 @@
 """Hunts by time: tables read back, lines of progress, and which words are refused."""
 import unittest
 
-from cases.timed import LONGEST, REFUSED, Outcome, difference_of_progress, fault_of_options, outcomes_of
-from model.hunts import Options, command_of
+from cases.timed import LONGEST, REFUSED, difference_of_progress, fault_of_options, outcomes_of
+from model.hunts import Options, Row, command_of
 
 OPTIONS = Options(16, 1, 99)
-FOUND = [Outcome(2, 4, "deadlock"), Outcome(7, 1, "exit 0, output 1")]
+FOUND = [Row(2, 4, "deadlock"), Row(7, 1, "exit 0, output 1")]
 
 
 def table(*outcomes, total, commands=None):
@@ -33,7 +33,7 @@ class Tables(unittest.TestCase):
         """Right below an outcome's line, and nowhere else."""
         lines = table((2, 4, "deadlock"), (7, 1, "exit 0, output 1"), total=9)
         said = [lines[0], "    said: a", *lines[1:]]
-        self.assertEqual(outcomes_of(said, OPTIONS), ([Outcome(2, 4, "deadlock", "a"), FOUND[1]], 9))
+        self.assertEqual(outcomes_of(said, OPTIONS), ([Row(2, 4, "deadlock", "a"), FOUND[1]], 9))
         self.assertIsNone(outcomes_of([*lines[:2], "    said: a", *lines[2:]], OPTIONS))
         self.assertIsNone(outcomes_of([*lines, "    said: a"], OPTIONS))
 
@@ -64,7 +64,7 @@ class Progress(unittest.TestCase):
         self.assertEqual(difference_of_progress(["progress: 3 runs"], FOUND, 1, 9, 9), "no line of progress: progress: 3 runs")
 
     def test_later_ranges(self):
-        found = [Outcome(9, 501, "deadlock")]
+        found = [Row(9, 501, "deadlock")]
         self.assertTrue(self.fits((2, 502, 2, 1), first=501, found=found))
         self.assertFalse(self.fits((2, 2, 2, 1), first=501, found=found))
 

@@ -1,11 +1,13 @@
 """Faults of `format` in their order, by hand; and that random words come up of each kind."""
 import unittest
 from collections import Counter
+from hashlib import sha256
 from random import Random
 
-from cases.words import NAMED, NAMELESS, NAMES, NO_NAMES, WordsCase, words_case
+from cases.words import NAMED, NAMELESS, NAMES, NO_NAMES, OWN_NAMES, WordsCase, words_case
 from compare import difference_of_names, expected_of_words
 from model.layout import Geometry, format_disk
+from model.switches import switched
 
 FITS, TOO_LONG = bytes(61440), bytes(61441)
 
@@ -52,6 +54,20 @@ class Names(unittest.TestCase):
             self.assertEqual(self.expected(command, None)[::2], (0, None))
         self.assertEqual(self.expected("hunt", NAMES[0]), (1, b"", "Names"))
         self.assertFalse(WordsCase([], "hunt", ("image",), {}).are_names_refused())
+
+    def test_of_another_program(self):
+        """Of a disk that notes its program only its own will do."""
+        with switched(keys=True, long_runs=True, programs=True):
+            disk = bytes(format_disk(Geometry(16, 1, 4096), b""))
+            for command in ("inspect", "calls", "races"):
+                case = WordsCase([], command, ("disk",), {"at": None, "code": None, "from": None, "to": None}, NAMES[0])
+                self.assertEqual(expected_of_words(case, disk, b""), (1, b"", "Names"))
+                case.names = OWN_NAMES[0]
+                self.assertEqual(expected_of_words(case, disk, b"")[::2], (0, None))
+            self.assertTrue(WordsCase([], "hunt", ("image",), {}, OWN_NAMES[0]).are_names_refused())
+            cases = [words_case(Random(seed), seed) for seed in range(1000)]
+            self.assertEqual({case.command for case in cases if case.names == OWN_NAMES[0]}, {"inspect", "calls", "races", "hunt"})
+        self.assertEqual(OWN_NAMES[1].split()[2:], [sha256(b"").hexdigest(), "00000000"])
 
     def test_told(self):
         usage, missing = ["      --names <FILE>  Take names"], ["the names missing: there is no such file", "ckrt: Names"]

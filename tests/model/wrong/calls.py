@@ -81,6 +81,9 @@ WRONG = {
         ("replies = session.take_output()\n", "replies = []\n"),
     ],
     "model/listing.py": [
+        ("[*lines, *lines_of_note(contents)]", "lines"),
+        ("[*lines, *lines_of_note(contents)]", "[*lines_of_note(contents), *lines]"),
+        ("{note[0].hex()} {note[1]}", "{note[0].hex()}"),
         ("for wait in state.waits],", "for wait in sorted(state.waits, key=lambda wait: wait.thread)],"),
         ("'unwind' if wait.result == UNWIND else int(wait.result)", "int(wait.result)"),
         ("CODE_WORDS = 4", "CODE_WORDS = 5"),

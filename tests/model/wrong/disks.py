@@ -1,6 +1,13 @@
 """Wrong models of layout, recovery, commits, checkpoints, lives, and the second readings of these."""
 
 WRONG = {
+    "model/switches.py": [
+        ("return {1, newest_superblock()}", "return {newest_superblock()}"),
+        ("return {1, newest_superblock()}", "return range(1, newest_superblock() + 1)"),
+    ],
+    "cases/formats.py": [
+        ('"NotADisk" if SWITCHES.programs else "File"', '"File"'),
+    ],
     "model/recovery.py": [
         ("areas[generations.index(max(generations))]", "areas[generations.index(min(generations))]"),
         ("len(set(generations)) == len(areas) and ", ""),
@@ -58,6 +65,17 @@ WRONG = {
         ('return 27, "NeedsCheckpoint"', 'return 26, "NeedsCheckpoint"'),
     ],
     "model/layout.py": [
+        ("return SUPERBLOCK.pack(MAGIC, version, geometry.pages, geometry.harts, geometry.journal) + note",
+         "return SUPERBLOCK.pack(MAGIC, version, geometry.pages, geometry.harts, geometry.journal)"),
+        ('NOTE = struct.Struct("<32sQ")', 'NOTE = struct.Struct("<32sI4x")'),
+        ("NOTE.pack(sha256(image).digest(), len(image)) if version", "NOTE.pack(sha256(image.rstrip(bytes(1))).digest(), len(image)) if version"),
+        ("NOTE.pack(sha256(image).digest(), len(image)) if version", "NOTE.pack(sha256(image).digest(), geometry.image_limit) if version"),
+        (" and contents[0] == OPEN\n", "\n"),
+        ("len(contents) >= NOTE_END", "len(contents) >= NOTE_END - 8"),
+        ("[:2] != (MAGIC, NOTED)", "[:2] != (MAGIC, 1)"),
+        ("[:2] != (MAGIC, NOTED)", "[:1] != (MAGIC,)"),
+        ("not in (None, (sha256(image).digest(), len(image)))", "!= (sha256(image).digest(), len(image))"),
+        ("newest_superblock() if version is None else 1", "newest_superblock()"),
         ("disk.sync()\n    write_gate(disk, 0, OPEN)", "write_gate(disk, 0, OPEN)"),
         ("sorted(memory.dirty[area])", "sorted(memory.dirty[area], reverse=True)"),
         ("sorted(memory.dirty[area])", "sorted(memory.dirty[1 - area])"),
