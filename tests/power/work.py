@@ -18,6 +18,7 @@ from shared.instructions import SLEEP_UNTIL, Program
 from shared.lives import ENOUGH
 
 COUNT = 3_000  # bytes that a guest puts
+FRONT_TABLE = 0x4000  # where its table lies behind its image
 JOURNALS = [4_096, 8_192, 65_536]
 LIVES = 3  # of each disk in a recording
 EXITED = 7  # the status of a drive whose guest has ended by another status than 0
@@ -28,13 +29,13 @@ PATIENCE = 600  # seconds for a command, on a machine however busy
 PART = 1 << 19  # bytes of a file in one note: the logged disk takes twice as many in one request
 
 
-def guest(seed, count, rounds=0):
-    """The image of a guest that puts what `output_of` says; it has its table in four pages.
+def guest(seed, count, rounds=0, table=FRONT_TABLE):
+    """The image of a guest that puts what `output_of` says; it has its table in four pages, from the address `table` on.
 
     Before each byte it goes so many rounds of two steps, and then sleeps for a moment, if it goes any: so it is committed often.
     """
     program = Program()
-    for register, value in ((5, seed), (8, count), (9, TABLE), (18, 0x4000)):
+    for register, value in ((5, seed), (8, count), (9, TABLE), (18, table)):
         program.constant(register, value)
     program.label("round")
     if rounds:
@@ -69,6 +70,7 @@ class Place:
     images: Path
     ckrt: Path
     pages: int = 16
+    table: int = FRONT_TABLE  # where guests have theirs
     turns: tuple = 30, 100, 400  # of drives that are cut
     events: tuple = 10, 40, 100, 300, 10_000
     calls: tuple = CALLS
@@ -86,7 +88,7 @@ class Place:
     def image(self, name):
         path = self.images / f"{name}.bin"
         if not path.exists():
-            path.write_bytes(guest(seed_of(name), COUNT))
+            path.write_bytes(guest(seed_of(name), COUNT, table=self.table))
         return path
 
     def words(self, job, name, *more):

@@ -17,7 +17,7 @@ use ckrt_cli_names::{Form, NamedWriter, Names};
 use ckrt_cli_reports::{SystemMeter, WrittenReport};
 use ckrt_cli_words::{Job, read_names, read_words};
 use ckrt_disk::Calls;
-use ckrt_look_callers::Rule;
+use ckrt_look_recording::Rule;
 use giving::Giving;
 use kept::KeptWriter;
 use rules::rules_for;

@@ -1,7 +1,7 @@
 //! The rules by which a job finds callers.
 use ckrt_cli_names::Names;
 use ckrt_cli_words::Job;
-use ckrt_look_callers::Rule;
+use ckrt_look_recording::Rule;
 use std::alloc::{AllocError, Global};
 
 /// Those that the names of a disk have, for a job that tells callers of each race.

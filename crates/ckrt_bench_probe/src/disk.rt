@@ -2,8 +2,8 @@
 
 use anyhow::{Result, bail};
 use ckrt_disk::{FileDisk, SystemFile};
+use ckrt_drive::RECORD_BYTES;
 use ckrt_events::Event;
-use ckrt_record::RECORD_BYTES;
 use ckrt_recovery::{Session, recover};
 use std::marker::Brand;
 use std::time::Instant;
@@ -86,7 +86,7 @@ fn save_recorded(session: &mut Session<RealDisk>) -> Result<()> {
     if session.spare_room() < RECORD_BYTES {
         bail!("no room for the record");
     }
-    if session.commit().is_err() || ckrt_record::checkpoint(session, 0).is_err() {
+    if session.commit().is_err() || ckrt_drive::checkpoint(session, 0).is_err() {
         bail!("no checkpoint");
     }
     Ok(())

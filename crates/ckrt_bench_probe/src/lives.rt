@@ -2,11 +2,11 @@
 //! (`tests/growths`).
 
 ghost use Rattle.std.specs.Prelude.{IsTrue, All};
-ghost use Rattle.ckrt_commands.specs.Lives.{IsInRangeLife};
+ghost use Rattle.ckrt_main.specs.Lives.{IsInRangeLife};
 
 use crate::growth::{CONFIG, IMAGE};
-use ckrt_commands::{Command, Life, LivesFault, lives};
 use ckrt_events::Event;
+use ckrt_main::{Command, Life, LivesFault, lives};
 use std::alloc::{AllocError, Global};
 
 /// A life of these commands that is stopped at a call, or never.

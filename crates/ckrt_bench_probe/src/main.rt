@@ -1,5 +1,5 @@
-//! The program that the benches measure, and whose growths of memory are refused one by one. It does the jobs of its
-//! words in turn, and writes times to standard error.
+//! The program that the benches measure, whose growths of memory are refused one by one, and which compares outside vectors. It
+//! does the jobs of its words in turn, and writes times to standard error.
 //!
 //! - `ckrt_bench_probe run IMAGE PAGES HARTS STEPS` runs a guest on the machine.
 //! - `ckrt_bench_probe feed IMAGE PAGES HARTS STEPS INPUT` does so with a file as the guest's input.
@@ -15,6 +15,7 @@
 //! - `ckrt_bench_probe grow` formats a disk and recovers it, and says which growth of memory was refused, if one was.
 //! - `ckrt_bench_probe tables` decodes saved tables, and says whether a growth of memory was refused.
 //! - `ckrt_bench_probe lives` runs lives of one program, and says whether a growth of memory was refused.
+//! - `ckrt_bench_probe vectors` compares outside vectors, which lie in the folder that it is run in.
 #![tactic(auto)]
 
 mod disk;
@@ -23,6 +24,8 @@ mod journal;
 mod lives;
 mod run;
 mod saved;
+mod vector_tables;
+mod vectors;
 
 use crate::disk::{
     time_changed, time_checkpoints, time_recorded_changed, time_recorded_checkpoints,
@@ -33,11 +36,12 @@ use crate::journal::{time_appends, time_decoding};
 use crate::lives::report_lives;
 use crate::run::{shape_of, time_fed, time_run};
 use crate::saved::time_tables;
+use crate::vectors::compare_vectors;
 use anyhow::{Context, Result, bail};
 use std::env;
 
 const USAGE: &str =
-    "usage: ckrt_bench_probe (run IMAGE PAGES HARTS STEPS | feed IMAGE PAGES HARTS STEPS INPUT | append FILE BYTES COUNT | decode COUNT | save FILE HARTS COUNT | recover FILE | checkpoint FILE COUNT | changed FILE COUNT | unchanged FILE COUNT | recorded FILE COUNT | recorded-changed FILE COUNT | grow | tables | lives)...";
+    "usage: ckrt_bench_probe (run IMAGE PAGES HARTS STEPS | feed IMAGE PAGES HARTS STEPS INPUT | append FILE BYTES COUNT | decode COUNT | save FILE HARTS COUNT | recover FILE | checkpoint FILE COUNT | changed FILE COUNT | unchanged FILE COUNT | recorded FILE COUNT | recorded-changed FILE COUNT | grow | tables | lives | vectors)...";
 
 fn number(word: &str) -> Result<u32> {
     word.parse::<u32>().context(USAGE)
@@ -151,6 +155,11 @@ fn live<'a>(rt: &HostRuntime, words: &'a [String]) -> Rest<'a> {
     Ok(words)
 }
 
+fn compare<'a>(rt: &HostRuntime, words: &'a [String]) -> Rest<'a> {
+    compare_vectors(rt)?;
+    Ok(words)
+}
+
 /// Does the first job that the words ask for.
 fn probe<'a>(rt: &HostRuntime, words: &'a [String]) -> Rest<'a> {
     let [verb, rest @ ..] = words else {
@@ -171,6 +180,7 @@ fn probe<'a>(rt: &HostRuntime, words: &'a [String]) -> Rest<'a> {
         "grow" => grow(rt, rest),
         "tables" => tables(rt, rest),
         "lives" => live(rt, rest),
+        "vectors" => compare(rt, rest),
         _ => bail!(USAGE),
     }
 }

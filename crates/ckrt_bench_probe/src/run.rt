@@ -3,11 +3,11 @@
 ghost use Rattle.std.specs.Prelude.{◌≤◌};
 
 use anyhow::{Result, bail, ensure};
+use ckrt_calls::Status;
 use ckrt_events::Event;
 use ckrt_machine::{Answer, Machine};
 use ckrt_memory::MemoryError;
 use ckrt_schedule::{next_input, taken_by};
-use ckrt_state::Status;
 use std::io::Write;
 use std::time::CpuClock;
 use std::{fs, io};

@@ -1,7 +1,7 @@
 //! Measures saved tables: how long they take to decode and to encode.
 
 use anyhow::{Context, Result, ensure};
-use ckrt_state::Tables;
+use ckrt_calls::Tables;
 use ckrt_tables::{AREA_VERSION, HELD_LIMIT, Held, TABLES_ROOM, decode_tables, encode_tables};
 use std::fs;
 use std::time::Instant;

@@ -13,8 +13,8 @@ use Rattle.ckrt_barrier.specs.declared.barrier.Barrier.{Barrier}
 use Rattle.ckrt_barrier.specs.WellFormed as barrier
 use Rattle.ckrt_rwlock.specs.declared.records.RwLock.{RwLock}
 use Rattle.ckrt_rwlock.specs.WellFormed as rwlock
-use Rattle.ckrt_state.specs.declared.table.Tables.{Tables}
-use Rattle.ckrt_state.specs.WellFormed.{IsWellFormed, lies_ahead, lacks_input}
+use Rattle.ckrt_calls.specs.declared.table.Tables.{Tables}
+use Rattle.ckrt_calls.specs.WellFormed.{IsWellFormed, lies_ahead, lacks_input}
 use Rattle.ckrt_calls.specs.Calling.{MayCall}
 use Rattle.ckrt_calls.proofs.ThreadRows.{IsWaitRule, AllWaits, all_rule, any_live_one}
 use Rattle.ckrt_calls.proofs.Queues.{SameQueues, barriers_same, locks_same}

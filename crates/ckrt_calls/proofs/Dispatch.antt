@@ -3,7 +3,7 @@ use Rattle.std.proofs.Common.{◌≡◌, ℕ, Option, Some, sym, ap, ◌∙◌}
 use Rattle.ckrt_registers.specs.Registers.{Registers}
 use Rattle.ckrt_registers.specs.Registers.{get}
 use Rattle.ckrt_thread.specs.State.{thread_of, regs_of}
-use Rattle.ckrt_state.specs.declared.table.Tables.{Tables}
+use Rattle.ckrt_calls.specs.declared.table.Tables.{Tables}
 use Rattle.ckrt_calls.specs.declared.number.Call.{Call}
 use Rattle.ckrt_calls.specs.Table.{row_or_point, row_or_unknown, called_with, called, call_of}
 

@@ -3,8 +3,8 @@ use Rattle.std.proofs.Common.{ℕ, Option, Some, None}
 use Rattle.ckrt_registers.specs.Registers.{Registers}
 use Rattle.ckrt_registers.specs.Registers.{get}
 use Rattle.ckrt_thread.specs.State as threads
-use Rattle.ckrt_state.specs.declared.table.Tables.{Tables}
-use Rattle.ckrt_state.specs.WellFormed.{IsWellFormed}
+use Rattle.ckrt_calls.specs.declared.table.Tables.{Tables}
+use Rattle.ckrt_calls.specs.WellFormed.{IsWellFormed}
 use Rattle.ckrt_calls.specs.declared.number.Call.{Call}
 use Rattle.ckrt_calls.specs.declared.number.Call.TheVariants as call
 use Rattle.ckrt_calls.specs.Table.{After, row, acts_at, row_or_unknown, called_with, called, call_of}

@@ -15,8 +15,8 @@ use Rattle.ckrt_barrier.proofs.Kept as kept_barriers
 use Rattle.ckrt_barrier.proofs.ThreadsKept as barrier_threads
 use Rattle.ckrt_rwlock.specs.WellFormed as rwlock
 use Rattle.ckrt_rwlock.proofs.WellFormed as locks
-use Rattle.ckrt_state.specs.declared.table.Tables.{Tables}
-use Rattle.ckrt_state.specs.WellFormed.{IsWellFormed}
+use Rattle.ckrt_calls.specs.declared.table.Tables.{Tables}
+use Rattle.ckrt_calls.specs.WellFormed.{IsWellFormed}
 use Rattle.ckrt_calls.specs.declared.number.BarrierCall.{BarrierCall}
 use Rattle.ckrt_calls.specs.declared.number.BarrierCall.TheVariants as barrier_call
 use Rattle.ckrt_calls.specs.Table.{barrier_row}

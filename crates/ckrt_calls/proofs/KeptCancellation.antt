@@ -12,8 +12,8 @@ use Rattle.ckrt_cancel.specs.Rows.{request_row, set_state_row, set_type_row, pus
 use Rattle.ckrt_cancel.proofs.Kept as kept_cancel
 use Rattle.ckrt_cancel.proofs.Kept.{waits_set_state, waits_set_type, waits_push, waits_pop, live_set_state, live_set_type, live_push, live_pop, live_request, well_formed_request}
 use Rattle.ckrt_cancel.proofs.ThreadsKept.{threads_request, threads_set_state, threads_set_type, threads_push, threads_pop}
-use Rattle.ckrt_state.specs.declared.table.Tables.{Tables}
-use Rattle.ckrt_state.specs.WellFormed.{IsWellFormed}
+use Rattle.ckrt_calls.specs.declared.table.Tables.{Tables}
+use Rattle.ckrt_calls.specs.WellFormed.{IsWellFormed}
 use Rattle.ckrt_calls.specs.declared.number.CancellationCall.{CancellationCall}
 use Rattle.ckrt_calls.specs.declared.number.CancellationCall.TheVariants as cancellation_call
 use Rattle.ckrt_calls.specs.Table.{cancellation_row}

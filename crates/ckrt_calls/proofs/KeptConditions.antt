@@ -23,8 +23,8 @@ use Rattle.ckrt_cond.proofs.Waits.{conditions_unwaited}
 use Rattle.ckrt_cond.proofs.Kept as kept_conditions
 use Rattle.ckrt_cond.proofs.Kept.{well_formed_wait, well_formed_timedwait, well_formed_signal, well_formed_broadcast}
 use Rattle.ckrt_cond.proofs.ThreadsKept as condition_threads
-use Rattle.ckrt_state.specs.declared.table.Tables.{Tables}
-use Rattle.ckrt_state.specs.WellFormed.{IsWellFormed}
+use Rattle.ckrt_calls.specs.declared.table.Tables.{Tables}
+use Rattle.ckrt_calls.specs.WellFormed.{IsWellFormed}
 use Rattle.ckrt_calls.specs.declared.number.ConditionCall.{ConditionCall}
 use Rattle.ckrt_calls.specs.declared.number.ConditionCall.TheVariants as condition_call
 use Rattle.ckrt_calls.specs.Table.{condition_row, moment_of}

@@ -13,9 +13,9 @@ use Rattle.ckrt_cancel.specs.Rows.{begin_unwind, act_on_request}
 use Rattle.ckrt_cancel.proofs.ThreadsKept.{threads_begin_unwind, threads_act_on_request}
 use Rattle.ckrt_barrier.proofs.WellFormed as barriers
 use Rattle.ckrt_rwlock.proofs.WellFormed as locks
-use Rattle.ckrt_state.specs.declared.table.Status.TheVariants.{Exited, Faulted}
-use Rattle.ckrt_state.specs.declared.table.Tables.{Tables}
-use Rattle.ckrt_state.specs.WellFormed.{IsWellFormed}
+use Rattle.ckrt_calls.specs.declared.table.Status.TheVariants.{Exited, Faulted}
+use Rattle.ckrt_calls.specs.declared.table.Tables.{Tables}
+use Rattle.ckrt_calls.specs.WellFormed.{IsWellFormed}
 use Rattle.ckrt_calls.specs.Table.{status_with, by_unwinding, unwound, begun_unwind, acted}
 use Rattle.ckrt_calls.specs.Calling.{MayCall}
 use Rattle.ckrt_calls.proofs.ThreadRows as rows

@@ -17,8 +17,8 @@ use Rattle.ckrt_mutex.specs.Rows.{mutex_of}
 use Rattle.ckrt_mutex.proofs.WellFormed.{well_formed_unnamed}
 use Rattle.ckrt_cond.specs.WellFormed.{is_with}
 use Rattle.ckrt_cond.proofs.Waits.{conditions_other}
-use Rattle.ckrt_state.specs.declared.table.Tables.{Tables}
-use Rattle.ckrt_state.specs.WellFormed.{IsWellFormed, lacks_input}
+use Rattle.ckrt_calls.specs.declared.table.Tables.{Tables}
+use Rattle.ckrt_calls.specs.WellFormed.{IsWellFormed, lacks_input}
 use Rattle.ckrt_calls.specs.declared.number.ProcessCall.{ProcessCall}
 use Rattle.ckrt_calls.specs.declared.number.ProcessCall.TheVariants as process_call
 use Rattle.ckrt_calls.specs.Table.{After, process_row, done, waits, getc_of, sleep_row, moment_of, END_OF_INPUT}

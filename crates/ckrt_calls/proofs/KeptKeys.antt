@@ -4,8 +4,8 @@ use Rattle.ckrt_registers.specs.Registers.{Registers}
 use Rattle.ckrt_registers.specs.Registers.{get}
 use Rattle.ckrt_cancel.specs.KeyRows.{key_create_row, key_delete_row, setspecific_row, getspecific_row}
 use Rattle.ckrt_cancel.proofs.KeysKept.{threads_key_create, threads_key_delete, threads_setspecific, threads_getspecific, waits_key_create, waits_key_delete, waits_setspecific, waits_getspecific, live_key_create, live_key_delete, live_setspecific, live_getspecific}
-use Rattle.ckrt_state.specs.declared.table.Tables.{Tables}
-use Rattle.ckrt_state.specs.WellFormed.{IsWellFormed}
+use Rattle.ckrt_calls.specs.declared.table.Tables.{Tables}
+use Rattle.ckrt_calls.specs.WellFormed.{IsWellFormed}
 use Rattle.ckrt_calls.specs.declared.number.KeyCall.{KeyCall}
 use Rattle.ckrt_calls.specs.declared.number.KeyCall.TheVariants as key_call
 use Rattle.ckrt_calls.specs.Table.{key_row}

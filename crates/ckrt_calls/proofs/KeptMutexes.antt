@@ -9,8 +9,8 @@ use Rattle.ckrt_mutex.proofs.ThreadsKept as mutex_threads
 use Rattle.ckrt_mutex.proofs.ThreadsKept.{live_unlock}
 use Rattle.ckrt_cond.specs.WellFormed as conditions
 use Rattle.ckrt_cond.proofs.Waits.{conditions_other}
-use Rattle.ckrt_state.specs.declared.table.Tables.{Tables}
-use Rattle.ckrt_state.specs.WellFormed.{IsWellFormed}
+use Rattle.ckrt_calls.specs.declared.table.Tables.{Tables}
+use Rattle.ckrt_calls.specs.WellFormed.{IsWellFormed}
 use Rattle.ckrt_calls.specs.declared.number.MutexCall.{MutexCall}
 use Rattle.ckrt_calls.specs.declared.number.MutexCall.TheVariants as mutex_call
 use Rattle.ckrt_calls.specs.Table.{mutex_row, moment_of}

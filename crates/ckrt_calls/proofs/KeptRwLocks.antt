@@ -18,8 +18,8 @@ use Rattle.ckrt_rwlock.specs.Rows as lock_rows
 use Rattle.ckrt_rwlock.proofs.Rows as lock_rules
 use Rattle.ckrt_rwlock.proofs.Kept as kept_locks
 use Rattle.ckrt_rwlock.proofs.ThreadsKept as lock_threads
-use Rattle.ckrt_state.specs.declared.table.Tables.{Tables}
-use Rattle.ckrt_state.specs.WellFormed.{IsWellFormed}
+use Rattle.ckrt_calls.specs.declared.table.Tables.{Tables}
+use Rattle.ckrt_calls.specs.WellFormed.{IsWellFormed}
 use Rattle.ckrt_calls.specs.declared.number.RwLockCall.{RwLockCall}
 use Rattle.ckrt_calls.specs.declared.number.RwLockCall.TheVariants as rwlock_call
 use Rattle.ckrt_calls.specs.Table.{rwlock_row}

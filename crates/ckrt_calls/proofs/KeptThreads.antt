@@ -4,8 +4,8 @@ use Rattle.ckrt_registers.specs.Registers.{Registers}
 use Rattle.ckrt_registers.specs.Registers.{get}
 use Rattle.ckrt_thread.specs.Rows.{create_row, join_row, detach_row}
 use Rattle.ckrt_thread.proofs.RowsKept.{well_formed_create, well_formed_join, well_formed_detach}
-use Rattle.ckrt_state.specs.declared.table.Tables.{Tables}
-use Rattle.ckrt_state.specs.WellFormed.{IsWellFormed}
+use Rattle.ckrt_calls.specs.declared.table.Tables.{Tables}
+use Rattle.ckrt_calls.specs.WellFormed.{IsWellFormed}
 use Rattle.ckrt_calls.specs.declared.number.ThreadCall.{ThreadCall}
 use Rattle.ckrt_calls.specs.declared.number.ThreadCall.TheVariants as thread_call
 use Rattle.ckrt_calls.specs.Table.{thread_row}

@@ -1,3 +1,5 @@
+pub mod Beginnings
+pub mod Test
 pub mod Choices
 pub mod Dispatch
 pub mod ThreadRows

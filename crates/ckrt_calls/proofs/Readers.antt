@@ -17,8 +17,8 @@ use Rattle.ckrt_thread.proofs.Waking as waking
 use Rattle.ckrt_thread.proofs.SlotLemmas.{kept_at, live_change}
 use Rattle.ckrt_objects.proofs.Granting.{well_formed_woken}
 use Rattle.ckrt_mutex.specs.WellFormed.{IsWellFormedWith}
-use Rattle.ckrt_state.specs.declared.table.Tables.{Tables}
-use Rattle.ckrt_state.specs.WellFormed.{INPUT_LIMIT, IsWellFormed, lies_ahead, lacks_input, may_be_read}
+use Rattle.ckrt_calls.specs.declared.table.Tables.{Tables}
+use Rattle.ckrt_calls.specs.WellFormed.{INPUT_LIMIT, IsWellFormed, lies_ahead, lacks_input, may_be_read}
 use Rattle.ckrt_calls.specs.Table.{Fed, feed, feed_first, input_taken, input_closed, END_OF_INPUT}
 use Rattle.ckrt_calls.proofs.ThreadRows as rows
 use Rattle.ckrt_calls.proofs.ThreadRows.{AllWaits, any_live_woken}

@@ -31,7 +31,7 @@ use Rattle.ckrt_rwlock.specs.RwLock.{is_held, is_holder, is_reader, is_writer, i
 use Rattle.ckrt_rwlock.specs.Rows as rwlock
 use Rattle.ckrt_cancel.specs.Rows as cancel
 use Rattle.ckrt_cancel.specs.KeyRows as keys
-use Rattle.ckrt_state.specs.declared.table.Tables.{Tables}
+use Rattle.ckrt_calls.specs.declared.table.Tables.{Tables}
 use Rattle.ckrt_calls.specs.declared.number.Call.{Call}
 use Rattle.ckrt_calls.specs.declared.number.Call.TheVariants as call
 use Rattle.ckrt_calls.specs.declared.number.ProcessCall.{ProcessCall}

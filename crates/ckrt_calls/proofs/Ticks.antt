@@ -18,8 +18,8 @@ use Rattle.ckrt_mutex.specs.WellFormed.{IsWellFormedWith}
 use Rattle.ckrt_mutex.proofs.Rows.{well_formed_retake}
 use Rattle.ckrt_objects.proofs.Granting.{well_formed_woken}
 use Rattle.ckrt_objects.proofs.Waits.{found_any}
-use Rattle.ckrt_state.specs.declared.table.Tables.{Tables}
-use Rattle.ckrt_state.specs.WellFormed.{IsWellFormed, lies_ahead, lacks_input}
+use Rattle.ckrt_calls.specs.declared.table.Tables.{Tables}
+use Rattle.ckrt_calls.specs.WellFormed.{IsWellFormed, lies_ahead, lacks_input}
 use Rattle.ckrt_calls.specs.Table.{timed_out, all_timed_out, ticked}
 use Rattle.ckrt_calls.proofs.ThreadRows as rows
 use Rattle.ckrt_calls.proofs.ThreadRows.{any_live_woken}

@@ -1,9 +1,9 @@
 -- What a call counts on.
 use Rattle.std.specs.Prelude.{◌≡◌, ℕ, true, false}
 use Rattle.ckrt_thread.specs.State as thread
-use Rattle.ckrt_state.specs.declared.table.Status.TheVariants.{Running}
-use Rattle.ckrt_state.specs.declared.table.Tables.{Tables}
-use Rattle.ckrt_state.specs.WellFormed.{IsWellFormed}
+use Rattle.ckrt_calls.specs.declared.table.Status.TheVariants.{Running}
+use Rattle.ckrt_calls.specs.declared.table.Tables.{Tables}
+use Rattle.ckrt_calls.specs.WellFormed.{IsWellFormed}
 
 -- the thread t is on a hart, and the program runs
 pub record MayCall (t : ℕ) (s : Tables) : Type 0 where

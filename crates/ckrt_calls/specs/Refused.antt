@@ -5,7 +5,7 @@ use Rattle.ckrt_thread.specs.declared.records.CallResult.{CallResult}
 use Rattle.ckrt_thread.specs.declared.records.CallResult.TheVariants.{Done, Blocked, Moved}
 use Rattle.ckrt_thread.specs.Errors.{EPERM, ESRCH, EAGAIN, EBUSY, EINVAL, EDEADLK, ENOSYS, ETIMEDOUT}
 use Rattle.ckrt_thread.specs.State.{thread_of, regs_of}
-use Rattle.ckrt_state.specs.declared.table.Tables.{Tables}
+use Rattle.ckrt_calls.specs.declared.table.Tables.{Tables}
 use Rattle.ckrt_calls.specs.declared.number.Call.{Call}
 use Rattle.ckrt_calls.specs.declared.number.Call.TheVariants as call
 use Rattle.ckrt_calls.specs.declared.number.ProcessCall.TheVariants as process_call

@@ -2,8 +2,8 @@
 ghost use Rattle.std.specs.Prelude.{◌≡◌, true, false, Option, None};
 ghost use Rattle.ckrt_registers.specs.Registers.{Registers};
 ghost use Rattle.ckrt_thread.specs.State.{is_live, is_waiting};
-ghost use Rattle.ckrt_state.specs.declared.table.Status.TheVariants.{Running};
-ghost use Rattle.ckrt_state.specs.WellFormed.{IsWellFormed};
+ghost use Rattle.ckrt_calls.specs.declared.table.Status.TheVariants.{Running};
+ghost use Rattle.ckrt_calls.specs.WellFormed.{IsWellFormed};
 ghost use Rattle.ckrt_calls.specs.Table.{process_row, thread_row, mutex_row, condition_row, barrier_row, rwlock_row, cancellation_row, key_row, row, row_or_point, called};
 ghost use Rattle.ckrt_calls.specs.Calling.{MayCall};
 
@@ -12,10 +12,10 @@ use crate::number::{
     BarrierCall, Call, CancellationCall, ConditionCall, KeyCall, MutexCall, ProcessCall,
     RwLockCall, ThreadCall,
 };
+use crate::table::{Status, Tables};
 use crate::time::{clock, moment_of, sleep_until};
 use crate::unwinding::{acts_at, begin_unwind};
 use ckrt_registers::Regs;
-use ckrt_state::{Status, Tables};
 use ckrt_thread::{CallResult, ENOSYS, ThreadId};
 
 /// The thread, which is on a hart, makes the call that stands in its registers: the number in x17, the arguments in x10 to x13.

@@ -3,7 +3,7 @@ ghost use Rattle.std.specs.Prelude.{◌≡◌, true, false};
 ghost use Rattle.ckrt_thread.specs.State.{is_live, is_waiting};
 ghost use Rattle.ckrt_calls.specs.Table.{getc_of, END_OF_INPUT};
 
-use ckrt_state::Tables;
+use crate::table::Tables;
 use ckrt_thread::{CallResult, Reason, ThreadId};
 
 /// What a thread reads where the input has ended.

@@ -3,11 +3,11 @@ ghost use Rattle.std.specs.Prelude.{◌≡◌, ◌≤◌, Some, true, length, is
 ghost use Rattle.std.specs.List.{find, list_all};
 ghost use Rattle.ckrt_thread.specs.Waits.{is_of};
 ghost use Rattle.ckrt_thread.specs.Deadlines.{due_waits};
-ghost use Rattle.ckrt_state.specs.WellFormed.{IsWellFormed, lies_ahead};
+ghost use Rattle.ckrt_calls.specs.WellFormed.{IsWellFormed, lies_ahead};
 ghost use Rattle.ckrt_calls.specs.Table.{timed_out, all_timed_out};
 
+use crate::table::Tables;
 use ckrt_cond::resume;
-use ckrt_state::Tables;
 use ckrt_thread::{ETIMEDOUT, Reason, RetakeResult, Wait};
 
 /// A wait that is due ends: a sleep with 0, a wait at a condition with the mutex and `ETIMEDOUT`, and a wait for a

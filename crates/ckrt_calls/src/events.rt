@@ -1,12 +1,13 @@
 //! What comes from outside: input, its end, and time.
 ghost use Rattle.std.specs.Prelude.{◌≡◌, ◌≤◌, ◌<◌, ◌+◌, length};
 ghost use Rattle.ckrt_thread.specs.Waits.{MOMENT_END};
-ghost use Rattle.ckrt_state.specs.WellFormed.{IsWellFormed};
+ghost use Rattle.ckrt_calls.specs.WellFormed.{IsWellFormed};
 ghost use Rattle.ckrt_calls.specs.Table.{END_OF_INPUT, input_taken, input_closed, ticked, feed};
 
 use crate::console::END_OF_INPUT;
 use crate::due::end_due_waits;
-use ckrt_state::{INPUT_LIMIT, InputQueue, Tables};
+use crate::input::{INPUT_LIMIT, InputQueue};
+use crate::table::Tables;
 use ckrt_thread::{Object, Threads};
 
 /// Bytes of input come. There must be room for them: at most [`INPUT_LIMIT`] may be left unread. While a byte is left

@@ -4,7 +4,7 @@ ghost use Rattle.ckrt_thread.specs.State.{is_live, is_waiting};
 ghost use Rattle.ckrt_thread.specs.Waits.{MOMENT_END};
 ghost use Rattle.ckrt_calls.specs.Table.{clock_row, moment_of, sleep_row};
 
-use ckrt_state::Tables;
+use crate::table::Tables;
 use ckrt_thread::{CallResult, EINVAL, MOMENT_END, Reason, ThreadId};
 
 /// The moment in ticks that two words give.

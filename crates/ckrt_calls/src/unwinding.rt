@@ -1,12 +1,12 @@
 //! Threads that unwind: their clean-up handlers and the destructors of their values run, and then they end.
 ghost use Rattle.std.specs.Prelude.{◌≡◌, true, false};
 ghost use Rattle.ckrt_thread.specs.State.{is_live, is_waiting, is_any_live};
-ghost use Rattle.ckrt_state.specs.declared.table.Status.TheVariants.{Running};
-ghost use Rattle.ckrt_state.specs.WellFormed.{IsWellFormed};
+ghost use Rattle.ckrt_calls.specs.declared.table.Status.TheVariants.{Running};
+ghost use Rattle.ckrt_calls.specs.WellFormed.{IsWellFormed};
 ghost use Rattle.ckrt_calls.specs.Table.{status_with, unwound, begun_unwind, acted, acts_at};
 
 use crate::number::Call;
-use ckrt_state::{Status, Tables};
+use crate::table::{Status, Tables};
 use ckrt_thread::ThreadId;
 
 /// With the last thread that ends the program exits with status 0.

@@ -1,7 +1,7 @@
 -- The input of a hunt: what was read of its file, by what sources gave before another call.
 use Rattle.std.proofs.Common.{◌≡◌, ◌∙◌, ℕ, List, Option, Some, None, subst}
 use Rattle.ckrt_cli_files.specs.Openings.{Openings}
-use Rattle.ckrt_cli_faults.specs.declared.fault.JobFault.{JobFault}
+use Rattle.ckrt_cli_reports.specs.declared.fault.JobFault.{JobFault}
 use Rattle.ckrt_cli.specs.Inputs.{EndsOnAskedInput, EndsOnInput, IsAskedInput}
 
 module _ (known later : List ℕ → Option (List ℕ)) (same : (path : List ℕ) → later path ≡ known path) where

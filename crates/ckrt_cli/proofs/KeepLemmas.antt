@@ -4,8 +4,8 @@ use Rattle.ckrt_disk.specs.declared.disk.Disk.{Ghosts}
 use Rattle.ckrt_hunt_races.specs.declared.telling.HuntTold.{HuntTold}
 use Rattle.ckrt_hunt_schedules.specs.declared.telling.HuntFault.{HuntFault}
 use Rattle.ckrt_cli_files.specs.Openings.{Openings, opened, with_making}
-use Rattle.ckrt_cli_faults.specs.declared.fault.JobFault.{JobFault}
-use Rattle.ckrt_checkpoint.specs.declared.config.Config.{Config}
+use Rattle.ckrt_cli_reports.specs.declared.fault.JobFault.{JobFault}
+use Rattle.ckrt_stored.specs.declared.config.Config.{Config}
 use Rattle.ckrt_hunt_schedules.specs.Tallies.{Hunted, hunted_of}
 use Rattle.ckrt_hunt_schedules.specs.declared.plan.Input.{Input}
 use Rattle.ckrt_hunt_schedules.specs.declared.table.Asked.{Asked}

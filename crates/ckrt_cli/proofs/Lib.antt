@@ -1,3 +1,10 @@
+mod BeforeLemmas
+mod SupplyLemmas
+mod LongLemmas
+mod HoldLemmas
+mod RunLemmas
+pub mod DriveRunLemmas
+pub mod LengthLemmas
 pub mod SoundLemmas
 pub mod ServedLemmas
 mod AppendLemmas

@@ -5,7 +5,7 @@ use Rattle.ckrt_look_recording.specs.declared.parts.Parts.{Parts}
 use Rattle.ckrt_gdb_stub.specs.Session.{BeginsAt, IsOutside}
 use Rattle.ckrt_gdb_stub.specs.declared.stub.Stub.{Stub}
 use Rattle.ckrt_gdb_playback.specs.Recorded.{Run, run_of}
-use Rattle.ckrt_cli_faults.specs.declared.fault.JobFault.{JobFault}
+use Rattle.ckrt_cli_reports.specs.declared.fault.JobFault.{JobFault}
 use Rattle.ckrt_cli.specs.Debugging.{DebugsParts, Line, ServesStub, first_in, run_in}
 
 module _ (at : Option ℕ) (p : Parts) (first : ℕ) (run : Run) (has_older : Bool) (first_is : first ≡ first_in p) (run_is : run ≡ run_in p) (older_is : has_older ≡ is_some p.older) where

@@ -21,9 +21,9 @@ use Rattle.ckrt_main.specs.declared.fault.ServeFault.TheVariants as serve
 use Rattle.ckrt_cli_words.specs.Jobs.{Debugging}
 use Rattle.ckrt_cli_files.specs.Openings.{Openings, opened, with_closed, with_disk}
 use Rattle.ckrt_cli_files.specs.declared.file.JobFile.TheVariants as file
-use Rattle.ckrt_cli_faults.specs.Outside.{Lacks, Outside}
-use Rattle.ckrt_cli_faults.specs.declared.fault.JobFault.{JobFault}
-use Rattle.ckrt_cli_faults.specs.declared.fault.JobFault.TheVariants as job
+use Rattle.ckrt_cli_reports.specs.Outside.{Lacks, Outside}
+use Rattle.ckrt_cli_reports.specs.declared.fault.JobFault.{JobFault}
+use Rattle.ckrt_cli_reports.specs.declared.fault.JobFault.TheVariants as job
 
 -- THE READING
 

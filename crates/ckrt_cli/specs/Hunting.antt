@@ -2,8 +2,8 @@
 use Rattle.std.specs.Prelude.{◌≡◌, ◌≢◌, ◌⊎◌, ℕ, zero, suc, ◌+◌, ◌-◌, ◌==◌, Bool, true, false, if◌then◌else◌, List, ◌++◌, length, slice_get, codes, decimal, Option, Some, None, is_some, option_map, Result, Ok, Err, IfErr, IfOk}
 use Rattle.std.specs.Io.KnownBytes.{Appends}
 use Rattle.ckrt_disk.specs.declared.disk.Disk.{Ghosts}
-use Rattle.ckrt_checkpoint.specs.declared.config.Config.{Config}
-use Rattle.ckrt_checkpoint.specs.Layout.{is_valid, size_needed}
+use Rattle.ckrt_stored.specs.declared.config.Config.{Config}
+use Rattle.ckrt_stored.specs.Layout.{is_valid, size_needed}
 use Rattle.ckrt_stored.specs.Programs.{formatted_program}
 use Rattle.ckrt_stored.specs.declared.fault.FormatFault.TheVariants as format
 use Rattle.ckrt_main.specs.declared.fault.ServeFault.TheVariants as serve
@@ -30,10 +30,10 @@ use Rattle.ckrt_cli_files.specs.Openings.{Openings, opened, with_image}
 use Rattle.ckrt_cli_files.specs.declared.file.FileFault.{FileFault}
 use Rattle.ckrt_cli_files.specs.declared.file.JobFile.{JobFile}
 use Rattle.ckrt_cli_files.specs.declared.file.JobFile.TheVariants as file
-use Rattle.ckrt_cli_faults.specs.Outside.{Outside}
-use Rattle.ckrt_cli_faults.specs.Ranges.{is_hunt_in_range}
-use Rattle.ckrt_cli_faults.specs.declared.fault.JobFault.{JobFault}
-use Rattle.ckrt_cli_faults.specs.declared.fault.JobFault.TheVariants as job
+use Rattle.ckrt_cli_reports.specs.Outside.{Outside}
+use Rattle.ckrt_cli_reports.specs.Ranges.{is_hunt_in_range}
+use Rattle.ckrt_cli_reports.specs.declared.fault.JobFault.{JobFault}
+use Rattle.ckrt_cli_reports.specs.declared.fault.JobFault.TheVariants as job
 use Rattle.ckrt_cli_disk.specs.Making.{EndsOnImage, IsFit}
 use Rattle.ckrt_cli.specs.declared.found.KeptAt.{KeptAt}
 use Rattle.ckrt_cli.specs.declared.found.ToldHunt.{ToldHunt}

@@ -2,8 +2,8 @@
 use Rattle.std.specs.Prelude.{◌≡◌, ◌⊎◌, ◌<◌, ℕ, List, length, Option, Some, None}
 use Rattle.ckrt_cli_files.specs.Openings.{Openings, opened, refused, with_image}
 use Rattle.ckrt_cli_files.specs.declared.file.JobFile.TheVariants as file
-use Rattle.ckrt_cli_faults.specs.declared.fault.JobFault.{JobFault}
-use Rattle.ckrt_cli_faults.specs.declared.fault.JobFault.TheVariants as job
+use Rattle.ckrt_cli_reports.specs.declared.fault.JobFault.{JobFault}
+use Rattle.ckrt_cli_reports.specs.declared.fault.JobFault.TheVariants as job
 
 -- a read of it failed
 abbrev pub IsUnreadable : JobFault → Type 0

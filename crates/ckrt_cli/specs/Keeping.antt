@@ -14,9 +14,9 @@ use Rattle.ckrt_hunt_schedules.specs.declared.keeping.KeepFault.TheVariants as k
 use Rattle.ckrt_hunt_schedules.specs.declared.plan.Plan.{Plan}
 use Rattle.ckrt_cli_files.specs.Openings.{Openings, opened, with_abandoned, with_closed, with_making, with_named}
 use Rattle.ckrt_cli_files.specs.declared.file.JobFile.TheVariants as file
-use Rattle.ckrt_cli_faults.specs.Outside.{Lacks}
-use Rattle.ckrt_cli_faults.specs.declared.fault.JobFault.{JobFault}
-use Rattle.ckrt_cli_faults.specs.declared.fault.JobFault.TheVariants as job
+use Rattle.ckrt_cli_reports.specs.Outside.{Lacks}
+use Rattle.ckrt_cli_reports.specs.declared.fault.JobFault.{JobFault}
+use Rattle.ckrt_cli_reports.specs.declared.fault.JobFault.TheVariants as job
 
 -- what the job answers where a run wasn't kept
 abbrev pub keep_fault_of : KeepFault → JobFault

@@ -1,3 +1,8 @@
+pub mod Coming
+pub mod Promise
+pub mod Commands
+pub mod Runs
+pub mod Lengths
 pub mod Performing
 pub mod Debugging
 pub mod Looking

@@ -5,7 +5,7 @@ use Rattle.ckrt_disk.specs.declared.disk.Disk.{Ghosts}
 use Rattle.ckrt_inspect.specs.Inspect.{is_device}
 use Rattle.ckrt_inspect.specs.declared.fault.InspectFault.{InspectFault}
 use Rattle.ckrt_inspect.specs.declared.fault.InspectFault.TheVariants.{Range}
-use Rattle.ckrt_look_callers.specs.declared.rule.Rule.{Rule}
+use Rattle.ckrt_look_recording.specs.declared.rule.Rule.{Rule}
 use Rattle.ckrt_look_calls.specs.Recorded.{AreLines}
 use Rattle.ckrt_look_calls.specs.Stretches.{Account, TellsStretch}
 use Rattle.ckrt_look_calls.specs.declared.stretch.Stretch.{Stretch}
@@ -22,9 +22,9 @@ use Rattle.ckrt_cli_words.specs.Jobs.{DiskStretch, Drawing, Profiling}
 use Rattle.ckrt_cli_words.specs.declared.job.ProfileForm.{ProfileForm}
 use Rattle.ckrt_cli_words.specs.declared.job.ProfileForm.TheVariants as asked
 use Rattle.ckrt_cli_files.specs.Openings.{opened, with_closed, with_disk}
-use Rattle.ckrt_cli_faults.specs.Outside.{IsRefused, Outside, asked_for}
-use Rattle.ckrt_cli_faults.specs.declared.fault.JobFault.{JobFault}
-use Rattle.ckrt_cli_faults.specs.declared.fault.JobFault.TheVariants as job
+use Rattle.ckrt_cli_reports.specs.Outside.{IsRefused, Outside, asked_for}
+use Rattle.ckrt_cli_reports.specs.declared.fault.JobFault.{JobFault}
+use Rattle.ckrt_cli_reports.specs.declared.fault.JobFault.TheVariants as job
 
 -- What a job looks at: a stretch, the disks that its path may stand for, and what is told of its events.
 pub record Sight (D : Type 0) : Type 1 where

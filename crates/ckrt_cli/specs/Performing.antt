@@ -4,8 +4,8 @@ use Rattle.clap.specs.Words.{takes}
 use Rattle.ckrt_disk.specs.declared.disk.Disk.{Ghosts}
 use Rattle.ckrt_disk.specs.declared.file.FileDisk.{FileDisk}
 use Rattle.ckrt_disk.specs.declared.positioned.PositionedFile.{Ghosts as Files}
-use Rattle.ckrt_checkpoint.specs.Layout.{size_needed}
-use Rattle.ckrt_checkpoint.specs.declared.config.Config.{Config}
+use Rattle.ckrt_stored.specs.Layout.{size_needed}
+use Rattle.ckrt_stored.specs.declared.config.Config.{Config}
 use Rattle.ckrt_recovery.specs.View.{fresh}
 use Rattle.ckrt_main.specs.Service.{IsStartFault, Served, ServedPart}
 use Rattle.ckrt_main.specs.declared.fault.ServeFault.{ServeFault}
@@ -18,25 +18,25 @@ use Rattle.ckrt_drive.specs.declared.stream.StreamOutput.{StreamOutput}
 use Rattle.ckrt_cli_disk.specs.CoreFiles.{CoresPath}
 use Rattle.ckrt_cli_disk.specs.Driving.{DrivesPath, IsLent, IsUnwritten, Means, means_of}
 use Rattle.ckrt_cli_disk.specs.Making.{Makes}
-use Rattle.ckrt_cli_faults.specs.Outside.{IsRefused, Outside, asked_for}
+use Rattle.ckrt_cli_reports.specs.Outside.{IsRefused, Outside, asked_for}
 use Rattle.ckrt_cli_files.specs.Openings.{opened, with_closed, with_disk}
 use Rattle.ckrt_cli_disk.specs.Running.{disk_of, RunsDisk}
-use Rattle.ckrt_cli_faults.specs.Statuses.{status_of, status_of_words}
+use Rattle.ckrt_cli_reports.specs.Statuses.{status_of, status_of_words}
 use Rattle.ckrt_cli_reports.specs.Lines.{ReportsOutcome, ReportsWords, SaysLine, formatted_line, version_line}
 use Rattle.ckrt_cli_disk.specs.Showing.{Shows, shown_of}
 use Rattle.ckrt_hunt_schedules.specs.declared.verdict.Verdict.{Verdict}
 use Rattle.ckrt_hunt_schedules.specs.declared.verdict.Verdict.TheVariants as verdict
-use Rattle.ckrt_look_callers.specs.declared.rule.Rule.{Rule}
+use Rattle.ckrt_look_recording.specs.declared.rule.Rule.{Rule}
 use Rattle.ckrt_cli.specs.Looking.{ProfilesPath, RacesPath, TimelinePath, TracesPath}
 use Rattle.ckrt_cli.specs.Debugging.{DebugsPath}
 use Rattle.ckrt_cli.specs.Hunting.{Hunter, HuntsPath, kept_size}
 use Rattle.ckrt_cli_files.specs.Real.{IsDiskOf, IsFilledOf, RealFile, real_gives}
 use Rattle.ckrt_cli_files.specs.Sources.{Gives}
-use Rattle.ckrt_cli_faults.specs.declared.done.Done.{Done}
-use Rattle.ckrt_cli_faults.specs.declared.done.Done.TheVariants as done
-use Rattle.ckrt_cli_faults.specs.declared.driven.Driven.{Driven}
-use Rattle.ckrt_cli_faults.specs.declared.fault.JobFault.{JobFault}
-use Rattle.ckrt_cli_faults.specs.declared.fault.JobFault.TheVariants as job
+use Rattle.ckrt_cli_reports.specs.declared.done.Done.{Done}
+use Rattle.ckrt_cli_reports.specs.declared.done.Done.TheVariants as done
+use Rattle.ckrt_cli_reports.specs.declared.driven.Driven.{Driven}
+use Rattle.ckrt_cli_reports.specs.declared.fault.JobFault.{JobFault}
+use Rattle.ckrt_cli_reports.specs.declared.fault.JobFault.TheVariants as job
 use Rattle.ckrt_cli_disk.specs.declared.running.Unserved.{Unserved}
 
 -- what a disk is made with

@@ -1,12 +1,12 @@
 //! Telling the calls that a disk has recorded.
 ghost use Rattle.std.specs.Prelude.{ℕ, List, Option};
 ghost use Rattle.ckrt_cli_words.specs.Jobs.{disk_stretch_of};
-ghost use Rattle.ckrt_cli_faults.specs.Outside.{outside};
+ghost use Rattle.ckrt_cli_reports.specs.Outside.{outside};
 ghost use Rattle.ckrt_cli.specs.Looking.{TracesPath};
 
 use crate::looking::look_path;
-use ckrt_cli_faults::JobFault;
 use ckrt_cli_files::Sources;
+use ckrt_cli_reports::JobFault;
 use ckrt_cli_words::StretchJob;
 use ckrt_disk::Disk;
 use ckrt_look_calls::Calls;

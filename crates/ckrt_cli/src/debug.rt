@@ -1,14 +1,14 @@
 //! Serving what a disk has recorded to a debugger.
 ghost use Rattle.std.specs.Prelude.{◌≡◌, IfOk};
 ghost use Rattle.ckrt_cli_words.specs.Jobs.{debugging_of};
-ghost use Rattle.ckrt_cli_faults.specs.Outside.{outside};
+ghost use Rattle.ckrt_cli_reports.specs.Outside.{outside};
 ghost use Rattle.ckrt_disk.specs.Frame.{IsOnlyRead};
 ghost use Rattle.ckrt_stored.specs.Reads.{IsReadAs, is_device};
 ghost use Rattle.ckrt_look_recording.specs.Reading.{RecordsParts};
 ghost use Rattle.ckrt_cli.specs.Debugging.{DebugsParts, DebugsPath, IsRead, ReadsOpened, ReadsPath, ServesStub, fault_of, first_in, line, run_in};
 
-use ckrt_cli_faults::JobFault;
 use ckrt_cli_files::{JobFile, Sources};
+use ckrt_cli_reports::JobFault;
 use ckrt_cli_words::DebugJob;
 use ckrt_disk::Disk;
 use ckrt_gdb_playback::Recorded;

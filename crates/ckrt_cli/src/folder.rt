@@ -1,14 +1,14 @@
 //! The folder in which each outcome of a hunt has a disk.
 ghost use Rattle.std.specs.Prelude.{◌≡◌, ◌<◌, ◌⊎◌, Err, IfOk, OnErr, OnOk, length, true};
-ghost use Rattle.ckrt_checkpoint.specs.Layout.{is_valid};
+ghost use Rattle.ckrt_stored.specs.Layout.{is_valid};
 ghost use Rattle.ckrt_hunt_schedules.specs.Table.{unkept_text};
 ghost use Rattle.ckrt_hunt_schedules.specs.Tallies.{hunted_of};
 ghost use Rattle.ckrt_cli.specs.Hunting.{KeepsEach, KeptIfShown, KeptOneMore, LacksPath, LacksRoom, NamesRow, TellsUnkept, folder_at, is_folder, outcome_path, reached, sought_in};
 
 use crate::found::{KeptAt, SeedsOf, keep_run, room_fault_of};
 use crate::keeping::Kept;
-use ckrt_cli_faults::JobFault;
 use ckrt_cli_files::Sources;
+use ckrt_cli_reports::JobFault;
 use ckrt_disk::Disk;
 use ckrt_hunt_schedules::{Hunt, Tries, is_shown, room_for, write_unkept};
 use ckrt_main::ServeFault;

@@ -1,7 +1,7 @@
 //! The run of a seed on a disk of a path, by the shortest schedule that is found, or as it was drawn.
 ghost use Rattle.std.specs.Prelude.{◌≡◌, ◌⊎◌, Ok, Result, true};
-ghost use Rattle.ckrt_cli_faults.specs.declared.fault.JobFault.{JobFault};
-ghost use Rattle.ckrt_checkpoint.specs.Layout.{is_valid, size_needed};
+ghost use Rattle.ckrt_cli_reports.specs.declared.fault.JobFault.{JobFault};
+ghost use Rattle.ckrt_stored.specs.Layout.{is_valid, size_needed};
 ghost use Rattle.ckrt_stored.specs.Programs.{formatted_program};
 ghost use Rattle.ckrt_hunt_schedules.specs.Short.{IsChosen};
 ghost use Rattle.ckrt_hunt_schedules.specs.Table.{kept_text};
@@ -10,8 +10,8 @@ ghost use Rattle.ckrt_cli.specs.Keeping.{Keeps};
 ghost use Rattle.ckrt_cli.specs.Hunting.{IsAsDrawn, KeepsFound, LacksRoom, TellsKept, reached, room_fault_of, sought_by, sought_in};
 
 use crate::keeping::{Kept, keep};
-use ckrt_cli_faults::JobFault;
 use ckrt_cli_files::Sources;
+use ckrt_cli_reports::JobFault;
 use ckrt_disk::Disk;
 use ckrt_hunt_schedules::{Chosen, Hunt, Input, Row, Shape, Tries, as_drawn, room_for, write_kept};
 use ckrt_main::ServeFault;

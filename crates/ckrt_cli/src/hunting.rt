@@ -1,19 +1,19 @@
 //! The hunt of the image of a path.
 ghost use Rattle.std.specs.Prelude.{◌≡◌, ℕ, List, Option, Result, IfErr, option_map, true};
 ghost use Rattle.ckrt_hunt_schedules.specs.Seeds.{ends_of};
-ghost use Rattle.ckrt_checkpoint.specs.Layout.{is_valid};
+ghost use Rattle.ckrt_stored.specs.Layout.{is_valid};
 ghost use Rattle.ckrt_hunt_schedules.specs.Tallies.{hunted_of};
 ghost use Rattle.ckrt_hunt_schedules.specs.Turns.{bytes_of};
 ghost use Rattle.ckrt_cli_words.specs.Jobs.{hunting_of};
-ghost use Rattle.ckrt_cli_faults.specs.Outside.{outside};
+ghost use Rattle.ckrt_cli_reports.specs.Outside.{outside};
 ghost use Rattle.ckrt_cli.specs.Hunting.{EndsHunt, HuntsPath, IsUnkeepable, KeepsAt, Tells, answer_of, asked_seeds, config_of, fault_of, kept_file, kept_size, place_of, reached, sought_in, wanted_of};
 
 use crate::folder::{is_folder, keep_in_folder, outcome_path};
 use crate::found::{KeptAt, ToldHunt, keep_first};
 use crate::input::asked_input;
 use ckrt_cli_disk::fitting_image;
-use ckrt_cli_faults::{JobFault, is_hunt_in_range};
 use ckrt_cli_files::{FileFault, JobFile, Sources};
+use ckrt_cli_reports::{JobFault, is_hunt_in_range};
 use ckrt_cli_words::HuntJob;
 use ckrt_disk::Disk;
 use ckrt_hunt_races::{HuntTold, hunt_as_asked};

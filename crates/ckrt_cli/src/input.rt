@@ -1,14 +1,14 @@
 //! The input that a hunt gives its programs.
 ghost use Rattle.std.specs.Prelude.{◌≡◌, ◌<◌, ◌+◌, ◌^◌, ◌⊎◌, List, ℕ, Some, IfErr, IfOk, OnOk, option_map, take};
 ghost use Rattle.ckrt_cli.specs.Inputs.{EndsOnAskedInput, EndsOnInput, IsAskedInput, IsUnreadable, with_asked_input};
-ghost use Rattle.ckrt_cli_faults.specs.declared.fault.JobFault.TheVariants.{File, OutOfMemory};
+ghost use Rattle.ckrt_cli_reports.specs.declared.fault.JobFault.TheVariants.{File, OutOfMemory};
 ghost use Rattle.ckrt_cli_files.specs.Openings.{opened, refused, with_image};
 ghost use Rattle.ckrt_cli_files.specs.Sources.{GivesSame};
 ghost use Rattle.ckrt_cli_files.specs.declared.file.FileFault.{FileFault};
 ghost use Rattle.ckrt_cli_files.specs.declared.file.JobFile.TheVariants as file;
 
-use ckrt_cli_faults::JobFault;
 use ckrt_cli_files::{FileFault, JobFile, Sources};
+use ckrt_cli_reports::JobFault;
 use ckrt_disk::Disk;
 use std::alloc::Global;
 use std::io::{ErrorKind, Read};

@@ -1,11 +1,11 @@
 //! The disk that a run of a hunt is kept on.
 ghost use Rattle.std.specs.Prelude.{◌≡◌, Ok, true};
-ghost use Rattle.ckrt_checkpoint.specs.Layout.{is_valid, size_needed};
+ghost use Rattle.ckrt_stored.specs.Layout.{is_valid, size_needed};
 ghost use Rattle.ckrt_stored.specs.Programs.{formatted_program};
 ghost use Rattle.ckrt_cli.specs.Keeping.{EndsKeeping, Keeps, KeepsOn, fault_of, keep_fault_of};
 
-use ckrt_cli_faults::JobFault;
 use ckrt_cli_files::{JobFile, Sources};
+use ckrt_cli_reports::JobFault;
 use ckrt_disk::Disk;
 use ckrt_hunt_schedules::{KeepFault, KeptDisk, Plan, SeedFault, keep_seed};
 use ckrt_recovery::{Config, RecoverFault};

@@ -49,6 +49,8 @@
 //! up. Behind the table it is told how many switches that run has, and how many the seed drew. Where the words name a folder, it is so
 //! with a disk for each outcome, in their order, each with the run of the first seed that came to it. The first one that isn't kept is
 //! named, and ends it.
+//!
+//! The promise of many drives from the words of the program on: runs of one command, one after another.
 #![tactic(auto)]
 
 mod calls;
@@ -58,17 +60,20 @@ mod found;
 mod hunting;
 mod input;
 mod keeping;
+mod laws;
 mod look_laws;
 mod looking;
 mod profile;
 mod program;
 mod races;
+mod runs;
 mod stored;
 mod timeline;
 
 pub use calls::calls_path;
 pub use debug::debug_path;
 pub use hunting::hunt_path;
+pub use laws::{commands_go_on, disks_are_left_before_drives, runs_go_on};
 pub use look_laws::{
     recorded_events_are_accepted, refused_events_are_damage, runs_that_lead_on_are_sound,
     sound_runs_are_recorded,
@@ -76,4 +81,5 @@ pub use look_laws::{
 pub use profile::profile_path;
 pub use program::{run_words, run_words_with};
 pub use races::races_path;
+pub use runs::{output_has_its_length, runs_are_drives, runs_are_told};
 pub use timeline::timeline_path;

@@ -3,11 +3,11 @@ ghost use Rattle.std.specs.Prelude.{◌≡◌, ℕ, List, Option, Result};
 ghost use Rattle.ckrt_disk.specs.Frame.{IsOnlyRead};
 ghost use Rattle.ckrt_inspect.specs.Inspect.{is_device};
 ghost use Rattle.ckrt_cli_words.specs.Jobs.{disk_stretch_of};
-ghost use Rattle.ckrt_cli_faults.specs.Outside.{outside};
+ghost use Rattle.ckrt_cli_reports.specs.Outside.{outside};
 ghost use Rattle.ckrt_cli.specs.Looking.{LooksOpened, LooksPath, LooksThere, answer_of, ends_before, sight, stretch_of};
 
-use ckrt_cli_faults::JobFault;
 use ckrt_cli_files::{JobFile, Sources};
+use ckrt_cli_reports::JobFault;
 use ckrt_cli_words::StretchJob;
 use ckrt_disk::Disk;
 use ckrt_inspect::InspectFault;

@@ -1,13 +1,13 @@
 //! Telling where the steps of what a disk has recorded went.
 ghost use Rattle.std.specs.Prelude.{◌≡◌, ℕ, List, Option};
 ghost use Rattle.ckrt_cli_words.specs.Jobs.{profiling_of};
-ghost use Rattle.ckrt_cli_faults.specs.Outside.{outside};
+ghost use Rattle.ckrt_cli_reports.specs.Outside.{outside};
 ghost use Rattle.ckrt_look_profile.specs.Recorded.{IsProfileText};
 ghost use Rattle.ckrt_cli.specs.Looking.{ProfilesPath, profile_form_of};
 
 use crate::looking::look_path;
-use ckrt_cli_faults::JobFault;
 use ckrt_cli_files::Sources;
+use ckrt_cli_reports::JobFault;
 use ckrt_cli_words::{ProfileForm, ProfileJob};
 use ckrt_disk::Disk;
 use ckrt_events::Event;

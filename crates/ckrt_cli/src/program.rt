@@ -6,19 +6,20 @@ ghost use Rattle.ckrt_cli_words.specs.Commands.{ckrt_app};
 ghost use Rattle.ckrt_cli_words.specs.Jobs.{Formatting, asks_both_forms, Request, format, version, formatting_of, inspection_of, request_of, request_of_words};
 ghost use Rattle.ckrt_cli_files.specs.Files.{openings_of};
 ghost use Rattle.ckrt_cli.specs.Performing.{made_line, MakesPath, Performs, RunsOpened, RunsPath, RunsWords, ServesStored, ShowsOpened, ShowsPath, outcome_of_hunt, outcome_with_end, outcome_without_end, real_files, size_of};
-ghost use Rattle.ckrt_cli_faults.specs.Outside.{outside};
+ghost use Rattle.ckrt_cli_reports.specs.Outside.{outside};
 ghost use Rattle.ckrt_cli_reports.specs.Lines.{version_line};
 
 use crate::{calls_path, debug_path, hunt_path, profile_path, races_path, stored, timeline_path};
 use ckrt_cli_disk::{core_path, drive_path, inspect_disk, make_disk, run_disk};
-use ckrt_cli_faults::{Done, Driven, JobFault, Meter};
 use ckrt_cli_files::{JobFile, RealDisk, Sources, SystemSources};
-use ckrt_cli_reports::{Reporter, report, report_words, write_formatted, write_version};
+use ckrt_cli_reports::{
+    Done, Driven, JobFault, Meter, Reporter, report, report_words, write_formatted, write_version,
+};
 use ckrt_cli_words::{FormatJob, InspectJob, Job, read_words};
 use ckrt_disk::{Disk, Holds};
 use ckrt_drive::StreamOutput;
 use ckrt_hunt_schedules::{HuntOnlooker, Verdict};
-use ckrt_look_callers::Rule;
+use ckrt_look_recording::Rule;
 use ckrt_main::serve_image;
 use ckrt_recovery::Config;
 use std::alloc::Global;

@@ -1,19 +1,19 @@
 //! Telling the data races of what a disk has recorded.
 ghost use Rattle.std.specs.Prelude.{ℕ, List, Option};
 ghost use Rattle.ckrt_cli_words.specs.Jobs.{disk_stretch_of};
-ghost use Rattle.ckrt_cli_faults.specs.Outside.{outside};
+ghost use Rattle.ckrt_cli_reports.specs.Outside.{outside};
 ghost use Rattle.ckrt_cli.specs.Looking.{RacesPath};
 
 use crate::looking::look_path;
-use ckrt_cli_faults::JobFault;
 use ckrt_cli_files::Sources;
+use ckrt_cli_reports::JobFault;
 use ckrt_cli_words::StretchJob;
 use ckrt_disk::Disk;
 use ckrt_events::Event;
 use ckrt_inspect::InspectFault;
-use ckrt_look_callers::Rule;
 use ckrt_look_calls::Telling;
 use ckrt_look_races::write_races;
+use ckrt_look_recording::Rule;
 use ckrt_machine::Machine;
 use std::alloc::Global;
 use std::io::{Read, Write};

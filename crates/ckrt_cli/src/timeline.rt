@@ -1,13 +1,13 @@
 //! Drawing what the threads of a disk's program did.
 ghost use Rattle.std.specs.Prelude.{◌≡◌, true, ℕ, List, Option};
 ghost use Rattle.ckrt_cli_words.specs.Jobs.{drawing_of};
-ghost use Rattle.ckrt_cli_faults.specs.Outside.{outside};
+ghost use Rattle.ckrt_cli_reports.specs.Outside.{outside};
 ghost use Rattle.ckrt_look_timeline.specs.Widths.{is_width};
 ghost use Rattle.ckrt_cli.specs.Looking.{TimelinePath, form_of};
 
 use crate::looking::look_path;
-use ckrt_cli_faults::JobFault;
 use ckrt_cli_files::Sources;
+use ckrt_cli_reports::JobFault;
 use ckrt_cli_words::TimelineJob;
 use ckrt_disk::Disk;
 use ckrt_events::Event;

@@ -6,7 +6,7 @@ use Rattle.ckrt_inspect.specs.declared.fault.InspectFault.{InspectFault}
 use Rattle.ckrt_cli_words.specs.Jobs.{CoreMaking}
 use Rattle.ckrt_cli_disk.specs.CoreFiles.{Cores, CoresFound}
 use Rattle.ckrt_cli_files.specs.Openings.{Openings}
-use Rattle.ckrt_cli_faults.specs.declared.fault.JobFault.{JobFault}
+use Rattle.ckrt_cli_reports.specs.declared.fault.JobFault.{JobFault}
 
 module _ {D : Type 0} (d : Ghosts D) (Fills Weaker : ℕ → D → Type 0) (are : (n : ℕ) (x : D) → Fills n x → Weaker n x) (old new : Openings D) (result : Result (Unit {0}) JobFault) where
   found_weaker : (path : List ℕ) (f : Result Progress InspectFault) → CoresFound d Fills path old new f result → CoresFound d Weaker path old new f result

@@ -1,7 +1,7 @@
 -- The drive of a disk, where less is known of what sources may give.
 use Rattle.std.proofs.Common.{◌≡◌, ℕ, true, sym, subst, List, Option, Some, None, Result, Ok, Err, IfErr, inl, inr}
 use Rattle.ckrt_machine.specs.Steps.{State}
-use Rattle.ckrt_checkpoint.specs.declared.config.Config.{Config}
+use Rattle.ckrt_stored.specs.declared.config.Config.{Config}
 use Rattle.ckrt_disk.specs.declared.disk.DeviceFault.{DeviceFault}
 use Rattle.ckrt_disk.specs.declared.disk.Disk.{Ghosts}
 use Rattle.ckrt_drive.specs.declared.fault.DriveFault.{DriveFault}
@@ -11,13 +11,13 @@ use Rattle.ckrt_drive.specs.declared.stream.StreamOutput.{StreamOutput}
 use Rattle.ckrt_stored.specs.declared.fault.RecoverFault.{RecoverFault}
 use Rattle.ckrt_cli_words.specs.Jobs.{Driving}
 use Rattle.ckrt_cli_disk.specs.Driving.{DrivesFed, DrivesInRange, DrivesLooked, DrivesOpened, DrivesPath, DrivesSized, DrivesSupplied, DrivesToward, IsAsked, Ready, Setting, driven_of, means_of, ready, setting_of}
-use Rattle.ckrt_cli_faults.specs.Ranges.{is_in_range, config_for}
+use Rattle.ckrt_cli_reports.specs.Ranges.{is_in_range, config_for}
 use Rattle.ckrt_cli_disk.specs.Feeding.{EndsWithRoom, MakesRoom, Supplies, SuppliesOpened, SuppliesTaken, made_size}
 use Rattle.ckrt_cli_disk.specs.Missing.{FindsDisk}
 use Rattle.ckrt_cli_files.specs.Openings.{Openings}
 use Rattle.ckrt_cli_files.specs.Sources.{Gives, GivesNoMore}
-use Rattle.ckrt_cli_faults.specs.declared.driven.Driven.{Driven}
-use Rattle.ckrt_cli_faults.specs.declared.fault.JobFault.{JobFault}
+use Rattle.ckrt_cli_reports.specs.declared.driven.Driven.{Driven}
+use Rattle.ckrt_cli_reports.specs.declared.fault.JobFault.{JobFault}
 use Rattle.ckrt_cli_disk.specs.declared.feeding.Intake.{Intake}
 use Rattle.ckrt_cli_disk.specs.declared.feeding.Supplied.{Supplied}
 use Rattle.ckrt_cli_disk.specs.declared.feeding.Unready.{Unready}

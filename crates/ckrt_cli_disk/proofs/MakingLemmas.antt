@@ -2,13 +2,13 @@
 use Rattle.std.proofs.Common.{◌≡◌, ◌≤◌, ℕ, Bool, true, false, not, cond, nat_lt, List, length, Option, Some, None, Result, Ok, Err, sym, ◌∙◌, ap, subst, arith}
 use Rattle.std.proofs.lemmas.Bool.Decides.{nat_tests}
 use Rattle.ckrt_disk.specs.declared.disk.Disk.{Ghosts}
-use Rattle.ckrt_checkpoint.specs.declared.config.Config.{Config}
-use Rattle.ckrt_checkpoint.specs.Layout.{is_valid, memory_size, size_needed}
+use Rattle.ckrt_stored.specs.declared.config.Config.{Config}
+use Rattle.ckrt_stored.specs.Layout.{is_valid, memory_size, size_needed}
 use Rattle.ckrt_stored.specs.declared.fault.FormatFault.{FormatFault}
 use Rattle.ckrt_stored.specs.declared.fault.FormatFault.TheVariants.{AlreadyFormatted, TooSmall, BadConfig, ImageTooLong, Device, OutOfMemory}
 use Rattle.ckrt_stored.specs.Format.{IsRefusedBy, format_refusal}
 use Rattle.ckrt_cli_files.specs.Openings.{Openings, opened, with_disk, with_image}
-use Rattle.ckrt_cli_faults.specs.declared.fault.JobFault.{JobFault}
+use Rattle.ckrt_cli_reports.specs.declared.fault.JobFault.{JobFault}
 use Rattle.ckrt_cli_disk.specs.Making.{EndsMaking, FormatsOpened, IsFit, MakesDisk, answer_of}
 
 -- where configuration and image fit only the size is refused

@@ -1,11 +1,11 @@
 -- The making of a missing disk, where less is known of the disks.
 use Rattle.std.proofs.Common.{◌≡◌, ℕ, List, Option, Some, None, Result, subst, inl, inr}
 use Rattle.ckrt_disk.specs.declared.disk.Disk.{Ghosts}
-use Rattle.ckrt_checkpoint.specs.declared.config.Config.{Config}
+use Rattle.ckrt_stored.specs.declared.config.Config.{Config}
 use Rattle.ckrt_cli_disk.specs.Missing.{MakesMissing}
 use Rattle.ckrt_cli_disk.specs.Programs.{Compares, LooksAtProgram}
 use Rattle.ckrt_cli_files.specs.Openings.{Openings}
-use Rattle.ckrt_cli_faults.specs.declared.fault.JobFault.{JobFault}
+use Rattle.ckrt_cli_reports.specs.declared.fault.JobFault.{JobFault}
 
 pub makes_weaker : {D : Type 0} (d : Ghosts D) (config : Config) (known : Option (List ℕ)) (Fills Weaker : D → Type 0) (image disk : List ℕ) (old new : Openings D) (result : Result D JobFault)
     → ((x : D) → Fills x → Weaker x) → MakesMissing d config known Fills image disk old new result → MakesMissing d config known Weaker image disk old new result

@@ -7,14 +7,14 @@ use Rattle.ckrt_events.specs.declared.event.Event.{Event}
 use Rattle.ckrt_stored.specs.Programs.{Program, output_after}
 use Rattle.ckrt_recovery.specs.Between.{StandsIn}
 use Rattle.ckrt_disk.specs.Lists.{IsBeginningOf}
-use Rattle.ckrt_commands.specs.Replies.{outs_of}
+use Rattle.ckrt_main.specs.Replies.{outs_of}
 use Rattle.ckrt_recovery.proofs.AcceptLemmas.{output_begins}
-use Rattle.ckrt_commands.proofs.ReplyLemmas.{all_weaker}
+use Rattle.ckrt_main.proofs.ReplyLemmas.{all_weaker}
 use Rattle.ckrt_disk.proofs.ListLemmas.{begins_through}
 use Rattle.ckrt_main.proofs.ToldLemmas.{lines_agree}
 use Rattle.ckrt_cli_disk.specs.Printing.{HaveSameBytes, HoldsEvents, PrintsOn, RecoversBehind}
 use Rattle.ckrt_cli_disk.specs.Running.{IsUnrecovered, KeepsEvents, Serves}
-use Rattle.ckrt_cli_faults.specs.declared.fault.JobFault.{JobFault}
+use Rattle.ckrt_cli_reports.specs.declared.fault.JobFault.{JobFault}
 
 -- a line of the output of more events has the bytes of any line of the output before
 same_bytes : (p : Program) (before after : List Event) → IsBeginningOf before after → (y : ℕ × List ℕ) → StandsIn (output_after p after) y

@@ -3,7 +3,7 @@ use Rattle.std.proofs.Common.{◌≡◌, ◌≤◌, ◌∙◌, ℕ, zero, suc, B
 use Rattle.std.proofs.lemmas.List.{take-append-drop, take_all}
 use Rattle.std.specs.Prelude.{◌⊎◌}
 use Rattle.std.specs.Io.KnownBytes.{Appends, IsAtEnd}
-use Rattle.ckrt_commands.specs.Replies.{text_of}
+use Rattle.ckrt_main.specs.Replies.{text_of}
 use Rattle.ckrt_disk.specs.Disk.{HasFailed, IsImage}
 use Rattle.ckrt_disk.specs.Frame.{MayBeLeft}
 use Rattle.ckrt_disk.specs.declared.disk.Disk.{Ghosts}
@@ -15,7 +15,7 @@ use Rattle.ckrt_recovery.specs.Between.{RecoversBetween}
 use Rattle.ckrt_disk.specs.Lists.{IsBeginningOf}
 use Rattle.ckrt_recovery.specs.Opening.{IsSyncedAndRead}
 use Rattle.ckrt_recovery.specs.Represents.{Represents, RecoversToEither}
-use Rattle.ckrt_commands.specs.Transcript.{Fate, transcript}
+use Rattle.ckrt_main.specs.Transcript.{Fate, transcript}
 use Rattle.ckrt_recovery.specs.View.{View, opened, view_of}
 use Rattle.ckrt_recovery.specs.declared.session.Session.{Session}
 use Rattle.ckrt_main.specs.Service.{Completes, Processes, Shows}

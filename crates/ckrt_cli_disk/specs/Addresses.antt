@@ -8,8 +8,8 @@ use Rattle.ckrt_rv32i.specs.declared.instruction.Instr.{Instr}
 use Rattle.ckrt_rv32i.specs.declared.instruction.Instr.TheVariants.{Jal, Jalr, Branch, Load, Store}
 use Rattle.ckrt_rv32i.specs.declared.memory_bus.Size.TheVariants as size
 use Rattle.ckrt_thread.specs.State.{regs_of, thread_of}
-use Rattle.ckrt_state.specs.declared.table.Status.{Status}
-use Rattle.ckrt_state.specs.declared.table.Status.TheVariants as status
+use Rattle.ckrt_calls.specs.declared.table.Status.{Status}
+use Rattle.ckrt_calls.specs.declared.table.Status.TheVariants as status
 use Rattle.ckrt_machine.specs.Steps.{State}
 
 -- of an instruction; of any other there is none (RISC-V unprivileged manual, RV32I 2.5 and 2.6)

@@ -1,7 +1,7 @@
 -- What a disk holds as a core: in a file beside the path that it is for, which gets that path once it is whole and durable. So at every moment
 -- what had the path stands there, or the whole core.
 use Rattle.std.specs.Prelude.{◌≡◌, ◌≢◌, ◌⊎◌, ℕ, List, length, Result, Ok, Err, OnOk, IfErr}
-use Rattle.ckrt_look_core_file.specs.Core.{core_of}
+use Rattle.ckrt_gdb_forms.specs.Core.{core_of}
 use Rattle.ckrt_disk.specs.Disk.{HasFailed}
 use Rattle.ckrt_disk.specs.Frame.{IsOnlyRead}
 use Rattle.ckrt_disk.specs.declared.disk.Disk.{Ghosts}
@@ -11,9 +11,9 @@ use Rattle.ckrt_inspect.specs.Inspect.{AgreesAt, is_device}
 use Rattle.ckrt_inspect.specs.declared.fault.InspectFault.{InspectFault}
 use Rattle.ckrt_cli_words.specs.Jobs.{CoreMaking}
 use Rattle.ckrt_cli_files.specs.Openings.{Openings, opened, with_abandoned, with_closed, with_closed_output, with_disk, with_making, with_named}
-use Rattle.ckrt_cli_faults.specs.Outside.{Lacks}
-use Rattle.ckrt_cli_faults.specs.declared.fault.JobFault.{JobFault}
-use Rattle.ckrt_cli_faults.specs.declared.fault.JobFault.TheVariants as job
+use Rattle.ckrt_cli_reports.specs.Outside.{Lacks}
+use Rattle.ckrt_cli_reports.specs.declared.fault.JobFault.{JobFault}
+use Rattle.ckrt_cli_reports.specs.declared.fault.JobFault.TheVariants as job
 use Rattle.ckrt_cli_files.specs.declared.file.FileFault.{FileFault}
 use Rattle.ckrt_cli_files.specs.declared.file.FileFault.TheVariants as fault
 use Rattle.ckrt_cli_files.specs.declared.file.JobFile.TheVariants as file

@@ -1,7 +1,7 @@
 -- The drive of a disk, with its input from a file, and its output in a disk of its own or on the standard output: from the words' options to
 -- the ending.
 use Rattle.std.specs.Prelude.{◌≡◌, ◌⊎◌, ◌-◌, ◌^◌, ℕ, Bool, true, false, List, Option, Some, None, Result, Ok, Err, IfErr, IfOk, IfSome, is_err, is_some}
-use Rattle.ckrt_checkpoint.specs.declared.config.Config.{Config}
+use Rattle.ckrt_stored.specs.declared.config.Config.{Config}
 use Rattle.ckrt_disk.specs.Disk.{HasFailed}
 use Rattle.ckrt_disk.specs.Frame.{IsOnlyRead}
 use Rattle.ckrt_disk.specs.declared.disk.DeviceFault.{DeviceFault}
@@ -26,16 +26,16 @@ use Rattle.ckrt_cli_words.specs.Jobs.{Driving}
 use Rattle.ckrt_cli_words.specs.declared.job.Sizes.{Sizes}
 use Rattle.ckrt_cli_disk.specs.Addresses.{fault_address}
 use Rattle.ckrt_cli_disk.specs.Feeding.{Supplies, file_of, made_size}
-use Rattle.ckrt_cli_faults.specs.Lengths.{fits, lengths_of}
+use Rattle.ckrt_cli_reports.specs.Lengths.{fits, lengths_of}
 use Rattle.ckrt_cli_disk.specs.Missing.{FindsDisk}
 use Rattle.ckrt_cli_files.specs.Openings.{Openings, opened, with_both_closed, with_closed, with_closed_output, with_output}
-use Rattle.ckrt_cli_faults.specs.Outside.{Lacks}
-use Rattle.ckrt_cli_faults.specs.Ranges.{config_for, is_in_range}
+use Rattle.ckrt_cli_reports.specs.Outside.{Lacks}
+use Rattle.ckrt_cli_reports.specs.Ranges.{config_for, is_in_range}
 use Rattle.ckrt_cli_disk.specs.Sizes.{other_sizes}
 use Rattle.ckrt_cli_files.specs.Sources.{Gives}
-use Rattle.ckrt_cli_faults.specs.declared.driven.Driven.{Driven}
-use Rattle.ckrt_cli_faults.specs.declared.fault.JobFault.{JobFault}
-use Rattle.ckrt_cli_faults.specs.declared.fault.JobFault.TheVariants as job
+use Rattle.ckrt_cli_reports.specs.declared.driven.Driven.{Driven}
+use Rattle.ckrt_cli_reports.specs.declared.fault.JobFault.{JobFault}
+use Rattle.ckrt_cli_reports.specs.declared.fault.JobFault.TheVariants as job
 use Rattle.ckrt_cli_disk.specs.declared.feeding.Intake.{Intake}
 use Rattle.ckrt_cli_disk.specs.declared.feeding.Supplied.{Supplied}
 use Rattle.ckrt_cli_files.specs.declared.file.JobFile.TheVariants as file

@@ -1,23 +1,23 @@
 -- The input of a drive: where it goes on, and the room for the record of it on the disk.
 use Rattle.std.specs.Prelude.{◌≡◌, ◌≢◌, ◌⊎◌, ◌≤◌, ◌<◌, ◌+◌, ℕ, nat_le, if◌then◌else◌, List, Option, Some, None, option_map, Result, Ok, Err}
-use Rattle.ckrt_checkpoint.specs.Layout.{size_needed}
+use Rattle.ckrt_stored.specs.Layout.{size_needed}
 use Rattle.ckrt_disk.specs.Frame.{IsOnlyRead}
 use Rattle.ckrt_disk.specs.declared.disk.Disk.{Ghosts}
 use Rattle.ckrt_stored.specs.Reads.{is_device}
 use Rattle.ckrt_stored.specs.Recovery.{◌>>=◌, Agrees, Is, in_use}
 use Rattle.ckrt_stored.specs.declared.fault.RecoverFault.{RecoverFault}
 use Rattle.ckrt_stored.specs.declared.fault.RecoverFault.TheVariants.{OutOfMemory}
-use Rattle.ckrt_record.specs.Offset.{Tells, fails_by_device, offset_from}
-use Rattle.ckrt_record.specs.Slot.{RECORD_BYTES}
-use Rattle.ckrt_record.specs.declared.fault.OffsetFault.{OffsetFault}
-use Rattle.ckrt_record.specs.declared.fault.OffsetFault.TheVariants.{Unrecovered, NotRecorded}
+use Rattle.ckrt_drive.specs.Offset.{Tells, fails_by_device, offset_from}
+use Rattle.ckrt_drive.specs.Slot.{RECORD_BYTES}
+use Rattle.ckrt_drive.specs.declared.offset_fault.OffsetFault.{OffsetFault}
+use Rattle.ckrt_drive.specs.declared.offset_fault.OffsetFault.TheVariants.{Unrecovered, NotRecorded}
 use Rattle.ckrt_cli_words.specs.Jobs.{Driving}
 use Rattle.ckrt_cli_files.specs.Openings.{Openings, opened, with_both_closed, with_closed, with_input, with_lengthened}
-use Rattle.ckrt_cli_faults.specs.Outside.{Lacks}
-use Rattle.ckrt_cli_faults.specs.Ranges.{config_for}
+use Rattle.ckrt_cli_reports.specs.Outside.{Lacks}
+use Rattle.ckrt_cli_reports.specs.Ranges.{config_for}
 use Rattle.ckrt_cli_files.specs.Sources.{Gives}
-use Rattle.ckrt_cli_faults.specs.declared.fault.JobFault.{JobFault}
-use Rattle.ckrt_cli_faults.specs.declared.fault.JobFault.TheVariants as job
+use Rattle.ckrt_cli_reports.specs.declared.fault.JobFault.{JobFault}
+use Rattle.ckrt_cli_reports.specs.declared.fault.JobFault.TheVariants as job
 use Rattle.ckrt_cli_disk.specs.declared.feeding.Intake.{Intake}
 use Rattle.ckrt_cli_disk.specs.declared.feeding.Supplied.{Supplied}
 use Rattle.ckrt_cli_disk.specs.declared.feeding.Unready.{Unready}

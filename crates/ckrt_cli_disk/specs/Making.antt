@@ -2,15 +2,15 @@
 use Rattle.std.specs.Prelude.{◌≡◌, ◌≢◌, ◌↔◌, ◌⊎◌, ◌<◌, ◌≤◌, ℕ, true, false, List, length, Option, Some, Result, Ok, Err, IsErrOf, OnOk}
 use Rattle.ckrt_disk.specs.Frame.{AtAnyMoment, WritesWithin}
 use Rattle.ckrt_disk.specs.declared.disk.Disk.{Ghosts}
-use Rattle.ckrt_checkpoint.specs.declared.config.Config.{Config}
-use Rattle.ckrt_checkpoint.specs.Layout.{is_open, is_valid, memory_size, size_needed}
+use Rattle.ckrt_stored.specs.declared.config.Config.{Config}
+use Rattle.ckrt_stored.specs.Layout.{is_open, is_valid, memory_size, size_needed}
 use Rattle.ckrt_stored.specs.declared.fault.FormatFault.{FormatFault}
 use Rattle.ckrt_stored.specs.declared.fault.FormatFault.TheVariants as format
 use Rattle.ckrt_stored.specs.Format.{FormatsAt, IsFormatting, IsMade, IsRefusedBy, StaysFormatted, WasFormatted, calls_of, format_refusal, is_device}
 use Rattle.ckrt_cli_files.specs.Elf.{is_elf}
 use Rattle.ckrt_cli_files.specs.Openings.{Openings, opened, refused, with_abandoned, with_closed, with_disk, with_image}
-use Rattle.ckrt_cli_faults.specs.declared.fault.JobFault.{JobFault}
-use Rattle.ckrt_cli_faults.specs.declared.fault.JobFault.TheVariants as job
+use Rattle.ckrt_cli_reports.specs.declared.fault.JobFault.{JobFault}
+use Rattle.ckrt_cli_reports.specs.declared.fault.JobFault.TheVariants as job
 use Rattle.ckrt_cli_files.specs.declared.file.FileFault.{FileFault}
 use Rattle.ckrt_cli_files.specs.declared.file.FileFault.TheVariants as fault
 use Rattle.ckrt_cli_files.specs.declared.file.JobFile.TheVariants as file

@@ -2,16 +2,16 @@
 -- path, or a whole disk.
 use Rattle.std.specs.Prelude.{◌≡◌, ◌⊎◌, ℕ, List, Option, Some, None, Result, Ok, Err, true, false}
 use Rattle.ckrt_disk.specs.declared.disk.Disk.{Ghosts}
-use Rattle.ckrt_checkpoint.specs.declared.config.Config.{Config}
-use Rattle.ckrt_checkpoint.specs.Layout.{is_valid}
+use Rattle.ckrt_stored.specs.declared.config.Config.{Config}
+use Rattle.ckrt_stored.specs.Layout.{is_valid}
 use Rattle.ckrt_stored.specs.declared.fault.FormatFault.{FormatFault}
 use Rattle.ckrt_stored.specs.declared.fault.FormatFault.TheVariants as format
 use Rattle.ckrt_cli_disk.specs.Making.{EndsOnImage, Formats, IsFit}
 use Rattle.ckrt_cli_disk.specs.Programs.{Compares}
 use Rattle.ckrt_cli_files.specs.Openings.{Openings, opened, refused, with_abandoned, with_disk, with_image, with_making, with_named}
-use Rattle.ckrt_cli_faults.specs.Outside.{Lacks}
-use Rattle.ckrt_cli_faults.specs.declared.fault.JobFault.{JobFault}
-use Rattle.ckrt_cli_faults.specs.declared.fault.JobFault.TheVariants as job
+use Rattle.ckrt_cli_reports.specs.Outside.{Lacks}
+use Rattle.ckrt_cli_reports.specs.declared.fault.JobFault.{JobFault}
+use Rattle.ckrt_cli_reports.specs.declared.fault.JobFault.TheVariants as job
 use Rattle.ckrt_cli_files.specs.declared.file.FileFault.{FileFault}
 use Rattle.ckrt_cli_files.specs.declared.file.FileFault.TheVariants as fault
 use Rattle.ckrt_cli_files.specs.declared.file.JobFile.TheVariants as file

@@ -13,13 +13,13 @@ use Rattle.ckrt_stored.specs.declared.fault.RecoverFault.{RecoverFault}
 use Rattle.ckrt_recovery.specs.Between.{RecoversBetween, StandsIn}
 use Rattle.ckrt_disk.specs.Lists.{IsBeginningOf}
 use Rattle.ckrt_recovery.specs.Opening.{IsSyncedAndRead}
-use Rattle.ckrt_commands.specs.Replies.{acks_of, oks_of, outs_of, shown_up_to, text_of}
-use Rattle.ckrt_commands.specs.Transcript.{Fate, transcript}
+use Rattle.ckrt_main.specs.Replies.{acks_of, oks_of, outs_of, shown_up_to, text_of}
+use Rattle.ckrt_main.specs.Transcript.{Fate, transcript}
 use Rattle.ckrt_recovery.specs.View.{opened}
 use Rattle.ckrt_main.specs.Service.{Shows}
 use Rattle.ckrt_main.specs.declared.fault.ServeFault.TheVariants as serve
-use Rattle.ckrt_cli_faults.specs.declared.fault.JobFault.{JobFault}
-use Rattle.ckrt_cli_faults.specs.declared.fault.JobFault.TheVariants as job
+use Rattle.ckrt_cli_reports.specs.declared.fault.JobFault.{JobFault}
+use Rattle.ckrt_cli_reports.specs.declared.fault.JobFault.TheVariants as job
 use Rattle.ckrt_cli_disk.specs.declared.running.Unserved.{Unserved}
 
 -- the faults that come before a byte is read or written

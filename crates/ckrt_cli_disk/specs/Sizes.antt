@@ -1,7 +1,7 @@
 -- The sizes that the words ask for, beside those of a disk.
 use Rattle.std.specs.Prelude.{ℕ, nat_eq, nat_lt, Bool, true, not, ◌&&◌, if◌then◌else◌, List, length, take, Option, Some, None}
-use Rattle.ckrt_checkpoint.specs.declared.config.Config.{Config}
-use Rattle.ckrt_checkpoint.specs.Layout.{is_open, is_valid, number_at}
+use Rattle.ckrt_stored.specs.declared.config.Config.{Config}
+use Rattle.ckrt_stored.specs.Layout.{is_open, is_valid, number_at}
 use Rattle.ckrt_cli_words.specs.declared.job.Sizes.{Sizes}
 
 -- a size is the one that is asked for, or none is

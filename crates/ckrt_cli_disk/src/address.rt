@@ -5,11 +5,11 @@ ghost use Rattle.ckrt_rv32i.specs.Table.{IsInRange};
 ghost use Rattle.ckrt_rv32i.specs.Words.{word_add_signed};
 ghost use Rattle.ckrt_cli_disk.specs.Addresses.{address_of, address_with, fault_address, instruction_at};
 
+use ckrt_calls::Status;
 use ckrt_machine::Machine;
 use ckrt_memory::Memory;
 use ckrt_registers::Regs;
 use ckrt_rv32i::{Bus, Instr, Size, decode};
-use ckrt_state::Status;
 
 /// The sum of a register and a signed offset.
 fn sum(regs: &Regs, base: u8, offset: i32) -> u32

@@ -1,15 +1,15 @@
 //! Writing what a disk holds as a core.
 ghost use Rattle.std.specs.Prelude.{◌≡◌, Ok, IfOk, IfErr};
-ghost use Rattle.ckrt_look_core_file.specs.Core.{core_of};
+ghost use Rattle.ckrt_gdb_forms.specs.Core.{core_of};
 ghost use Rattle.ckrt_cli_words.specs.Jobs.{core_making_of};
 ghost use Rattle.ckrt_cli_disk.specs.CoreFiles.{Cores, CoresOpened, CoresPath, EndsCore, MakesCore, WritesCore, WritesInto};
 
-use ckrt_cli_faults::JobFault;
 use ckrt_cli_files::{FileFault, JobFile, Sources};
+use ckrt_cli_reports::JobFault;
 use ckrt_cli_words::CoreJob;
 use ckrt_disk::{Disk, write_synced};
+use ckrt_gdb_forms::{core_size, write_core};
 use ckrt_inspect::read_program;
-use ckrt_look_core_file::{core_size, write_core};
 use ckrt_machine::Machine;
 use std::alloc::Global;
 use std::io::Read;

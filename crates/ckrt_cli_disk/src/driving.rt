@@ -2,15 +2,15 @@
 ghost use Rattle.std.specs.Prelude.{◌≡◌, None, Some, is_some, true};
 ghost use Rattle.ckrt_cli_words.specs.Jobs.{driving_of};
 ghost use Rattle.ckrt_cli_disk.specs.Driving.{DrivesFed, DrivesInto, DrivesOnto, DrivesOpened, DrivesOpenedOutput, DrivesPath, DrivesRecovered, DrivesSized, DrivesStream, DrivesWay, IsAsked, IsLent, IsUnwritten, answer_of, driven_of, means_of, offset_of, ready, setting_of, way_of};
-ghost use Rattle.ckrt_cli_faults.specs.Ranges.{is_in_range};
+ghost use Rattle.ckrt_cli_reports.specs.Ranges.{is_in_range};
 ghost use Rattle.ckrt_drive.specs.Streams.{HasSameWriter};
 
 use crate::address::fault_address;
 use crate::feeding::{Intake, Supplied, close_both, file_of, supply};
 use crate::missing::find_disk;
 use crate::sizes::other_sizes;
-use ckrt_cli_faults::{DrivePaths, Driven, JobFault, Meter, OutputLengths, Watch, is_in_range};
 use ckrt_cli_files::{JobFile, OpenedOutput, OutputReason, Sources};
+use ckrt_cli_reports::{DrivePaths, Driven, JobFault, Meter, OutputLengths, Watch, is_in_range};
 use ckrt_cli_words::DriveJob;
 use ckrt_disk::Disk;
 use ckrt_drive::{Drive, DriveFault, Feed, FromDisk, Nothing, Options, StreamOutput};

@@ -2,10 +2,10 @@
 ghost use Rattle.std.specs.Prelude.{◌≡◌, ◌<◌, ◌+◌, ◌^◌, ◌⊎◌, List, ℕ, Some, IfOk, IfErr, take};
 ghost use Rattle.ckrt_cli_disk.specs.Making.{IsUnreadable};
 ghost use Rattle.ckrt_cli_files.specs.Elf.{is_elf};
-ghost use Rattle.ckrt_cli_faults.specs.declared.fault.JobFault.TheVariants.{OutOfMemory};
+ghost use Rattle.ckrt_cli_reports.specs.declared.fault.JobFault.TheVariants.{OutOfMemory};
 
-use ckrt_cli_faults::JobFault;
 use ckrt_cli_files::{FileFault, JobFile};
+use ckrt_cli_reports::JobFault;
 use std::alloc::Global;
 use std::io::{ErrorKind, Read};
 

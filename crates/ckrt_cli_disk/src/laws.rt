@@ -4,8 +4,8 @@ ghost use Rattle.ckrt_events.specs.declared.event.Event.{Event};
 ghost use Rattle.ckrt_stored.specs.Programs.{Program};
 ghost use Rattle.ckrt_cli_disk.specs.Printing.{HoldsEvents, PrintsOn};
 ghost use Rattle.ckrt_cli_disk.specs.Running.{IsUnrecovered, Serves};
-ghost use Rattle.ckrt_cli_faults.specs.declared.fault.JobFault.{JobFault};
-ghost use Rattle.ckrt_commands.specs.Replies.{outs_of};
+ghost use Rattle.ckrt_cli_reports.specs.declared.fault.JobFault.{JobFault};
+ghost use Rattle.ckrt_main.specs.Replies.{outs_of};
 
 use ckrt_disk::Disk;
 

@@ -1,17 +1,17 @@
 //! Making a disk.
 ghost use Rattle.std.specs.Prelude.{◌≡◌, ◌↔◌, ◌≤◌, ℕ, List, Some, false, true, length, IfOk, IfErr, IsTrue, OnOk};
-ghost use Rattle.ckrt_checkpoint.specs.Layout.{is_valid, memory_size, size_needed};
+ghost use Rattle.ckrt_stored.specs.Layout.{is_valid, memory_size, size_needed};
 ghost use Rattle.ckrt_cli_disk.specs.Making.{EndsOnImage, FormatsOpened, IsFit, Makes};
 ghost use Rattle.ckrt_cli_files.specs.Elf.{is_elf};
 ghost use Rattle.ckrt_cli_files.specs.Openings.{opened, refused, with_disk, with_image};
 ghost use Rattle.ckrt_cli_files.specs.Sources.{GivesSame};
-ghost use Rattle.ckrt_cli_faults.specs.declared.fault.JobFault.TheVariants.{File};
+ghost use Rattle.ckrt_cli_reports.specs.declared.fault.JobFault.TheVariants.{File};
 ghost use Rattle.ckrt_cli_files.specs.declared.file.FileFault.{FileFault};
 ghost use Rattle.ckrt_cli_files.specs.declared.file.JobFile.TheVariants as file;
 
 use crate::image::{is_elf, read_image};
-use ckrt_cli_faults::JobFault;
 use ckrt_cli_files::{FileFault, JobFile, Sources};
+use ckrt_cli_reports::JobFault;
 use ckrt_disk::Disk;
 use ckrt_recovery::{Config, FormatFault};
 use std::alloc::Global;

@@ -1,21 +1,21 @@
 //! Making a disk that a drive doesn't find.
 ghost use Rattle.std.specs.Prelude.{◌≡◌, ◌↔◌, ◌≤◌, ◌+◌, IfOk, IfErr, IsTrue, Ok, OnOk};
-ghost use Rattle.ckrt_checkpoint.specs.Layout.{size_needed};
+ghost use Rattle.ckrt_stored.specs.Layout.{size_needed};
 ghost use Rattle.ckrt_cli_words.specs.Jobs.{driving_of};
 ghost use Rattle.ckrt_cli_disk.specs.Feeding.{made_size};
 ghost use Rattle.ckrt_cli_disk.specs.Missing.{EndsNaming, FindsDisk, MakesMissing, MakesNamed};
 ghost use Rattle.ckrt_cli_files.specs.Openings.{opened, refused, with_making};
-ghost use Rattle.ckrt_cli_faults.specs.Ranges.{config_for};
+ghost use Rattle.ckrt_cli_reports.specs.Ranges.{config_for};
 ghost use Rattle.ckrt_cli_files.specs.Sources.{GivesSame};
-ghost use Rattle.ckrt_cli_faults.specs.declared.fault.JobFault.TheVariants.{File};
+ghost use Rattle.ckrt_cli_reports.specs.declared.fault.JobFault.TheVariants.{File};
 ghost use Rattle.ckrt_cli_files.specs.declared.file.FileFault.{FileFault};
 ghost use Rattle.ckrt_cli_files.specs.declared.file.JobFile.TheVariants as file;
 
 use crate::feeding::spare_for;
 use crate::making::fitting_image;
 use crate::program::compared;
-use ckrt_cli_faults::{JobFault, config_for};
 use ckrt_cli_files::{FileFault, JobFile, Sources};
+use ckrt_cli_reports::{JobFault, config_for};
 use ckrt_cli_words::DriveJob;
 use ckrt_disk::Disk;
 use ckrt_recovery::{Config, FormatFault};

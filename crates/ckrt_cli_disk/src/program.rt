@@ -5,8 +5,8 @@ ghost use Rattle.ckrt_cli_files.specs.Sources.{GivesSame};
 ghost use Rattle.std.specs.Option.{option_map};
 
 use crate::making::fitting_image;
-use ckrt_cli_faults::{JobFault, ProgramNotes};
 use ckrt_cli_files::Sources;
+use ckrt_cli_reports::{JobFault, ProgramNotes};
 use ckrt_disk::Disk;
 use ckrt_recovery::{Config, RecoverFault};
 use ckrt_stored::{ProgramNote, note_for, read_note};

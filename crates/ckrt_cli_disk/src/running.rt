@@ -7,7 +7,7 @@ ghost use Rattle.ckrt_stored.specs.Recovery.{Recovered, Recovers};
 ghost use Rattle.ckrt_recovery.specs.View.{opened};
 ghost use Rattle.ckrt_cli_disk.specs.Running.{AgreesOnJob, IsBeforeService, disk_of, RunsDisk};
 
-use ckrt_cli_faults::JobFault;
+use ckrt_cli_reports::JobFault;
 use ckrt_disk::Disk;
 use ckrt_main::serve;
 use ckrt_recovery::recover;

@@ -2,9 +2,9 @@
 ghost use Rattle.std.specs.Prelude.{◌≡◌, ◌≢◌, IfErr};
 ghost use Rattle.ckrt_inspect.specs.declared.fault.InspectFault.TheVariants.{Write as Writing};
 ghost use Rattle.ckrt_cli_disk.specs.Showing.{Shows, shown_of};
-ghost use Rattle.ckrt_cli_faults.specs.declared.fault.JobFault.TheVariants.{Inspect};
+ghost use Rattle.ckrt_cli_reports.specs.declared.fault.JobFault.TheVariants.{Inspect};
 
-use ckrt_cli_faults::JobFault;
+use ckrt_cli_reports::JobFault;
 use ckrt_cli_words::InspectJob;
 use ckrt_disk::Disk;
 use ckrt_inspect::{Shown, inspect_with};

@@ -3,10 +3,10 @@ ghost use Rattle.std.specs.Prelude.{◌≡◌, is_err, length, IfOk};
 ghost use Rattle.ckrt_disk.specs.Frame.{IsOnlyRead};
 ghost use Rattle.ckrt_cli_disk.specs.Sizes.{agrees, config_in, is_asked, other_in, other_sizes};
 
-use ckrt_checkpoint::{OPEN, number_32};
 use ckrt_cli_words::Sizes;
 use ckrt_disk::{DeviceFault, Disk};
 use ckrt_recovery::Config;
+use ckrt_stored::{OPEN, number_32};
 
 /// The bytes of a superblock that have the sizes.
 const SUPERBLOCK_BYTES: usize = 32;

@@ -1,7 +1,7 @@
 -- Whether a file that is there may become a disk: what a making that was cut leaves, and what is no disk and nobody's bytes.
-use Rattle.std.specs.Prelude.{◌≡◌, ◌≢◌, ◌⊎◌, ◌&&◌, ◌||◌, not, ℕ, nat_eq, nat_lt, Bool, true, false, if◌then◌else◌, List, length, take, Ok}
+use Rattle.std.specs.Prelude.{◌≡◌, ◌≢◌, ◌⊎◌, ◌&&◌, ◌||◌, ℕ, nat_eq, nat_lt, Bool, true, false, if◌then◌else◌, List, length, take, Ok}
 use Rattle.std.specs.List.{list_all}
-use Rattle.ckrt_checkpoint.specs.Layout.{is_open, number_at}
+use Rattle.ckrt_stored.specs.Layout.{is_open, number_at}
 use Rattle.ckrt_stored.specs.Filling.{smallest_disk}
 use Rattle.ckrt_stored.specs.declared.fault.RecoverFault.{RecoverFault}
 use Rattle.ckrt_stored.specs.declared.fault.RecoverFault.TheVariants.{Device, OutOfMemory}
@@ -52,15 +52,13 @@ is_zero bytes = list_all (λ byte. nat_eq byte 0) bytes
 abbrev pub is_free : (size : ℕ) → List ℕ → Bool
 is_free size image = is_unfinished image || is_zero (take size image)
 
--- A file with an open gate that is as long as is asked for is told by formatting to be a disk already. One that is shorter gets
--- longer before: so it has to have a disk's name.
-abbrev pub has_disk : (size : ℕ) → List ℕ → Bool
-has_disk size image =
+-- a file is a disk where it is as long as the smallest one, its gate is open, and it has a disk's name
+abbrev pub has_disk : List ℕ → Bool
+has_disk image =
     if nat_lt (length image) smallest_disk then false
-    else is_open image
-    && (not (nat_lt (length image) size) || nat_eq (number_at 8 8 (take 16 image)) MAGIC)
+    else is_open image && nat_eq (number_at 8 8 (take 16 image)) MAGIC
 
 -- what a file is that is to become a disk of that many bytes: a disk already, or free to be written over, or somebody's bytes
 abbrev pub kind_of : (size : ℕ) → List ℕ → FileKind
 kind_of size image =
-    if has_disk size image then Disk else if is_free size image then Free else Foreign
+    if has_disk image then Disk else if is_free size image then Free else Foreign

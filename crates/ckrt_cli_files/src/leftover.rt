@@ -3,16 +3,15 @@ ghost use Rattle.std.specs.Prelude.{◌≡◌, ◌↔◌, ◌≤◌, ◌+◌, fa
 ghost use Rattle.ckrt_disk.specs.Frame.{IsOnlyRead, IsSameDisk};
 ghost use Rattle.ckrt_cli_files.specs.Leftovers.{HasNotBegun, IsInMaking, IsOfContent, has_disk, is_free, is_marked, is_unfinished, is_unnamed, is_zero, kind_of};
 
-use ckrt_checkpoint::{FIELDS_AT, OPEN, number_64};
 use ckrt_disk::{DeviceFault, Disk};
 use ckrt_recovery::{RecoverFault, Session, recover};
-use ckrt_stored::SMALLEST_DISK;
+use ckrt_stored::{FIELDS_AT, OPEN, SMALLEST_DISK, number_64};
 use std::alloc::Global;
 
 /// What a file is that is to become a disk.
 #[derive(Clone, Copy)]
 pub(crate) enum FileKind {
-    /// A disk already, as its open gate tells: nothing of it is written over.
+    /// A disk already, as its open gate and its name tell: nothing of it is written over.
     Disk,
     /// Free to be written over: it has no bytes but zeros, or a making that was cut left it.
     Free,
@@ -168,18 +167,18 @@ fn is_blank<D: Disk>(disk: &mut D, size: usize) -> Result<bool, DeviceFault>
     Ok(true)
 }
 
-/// Whether formatting leaves a file as it is, with an open gate.
-fn has_disk<D: Disk>(disk: &mut D, size: usize) -> Result<bool, DeviceFault>
+/// Whether a file is a disk, by its open gate and its name. It is as long as the smallest disk then.
+fn has_disk<D: Disk>(disk: &mut D) -> Result<bool, DeviceFault>
     ensures read { IsOnlyRead D.Disk disk.old disk.new (is_err result) }
     ensures exact { IfOk result
-        (λ found. D.is_honest disk.new → found ≡ has_disk size (D.content disk.old)) }
+        (λ found. D.is_honest disk.new → found ≡ has_disk (D.content disk.old)) }
 {
     if disk.size() < SMALLEST_DISK {
         return Ok(false);
     }
     let mut front = [0; FRONT];
     disk.read(0, &mut front)?;
-    Ok(front[0] == OPEN && (disk.size() >= size || number_64(&front, FIELDS_AT) == NAME))
+    Ok(front[0] == OPEN && number_64(&front, FIELDS_AT) == NAME)
 }
 
 /// Whether a file is free to be written over.
@@ -200,7 +199,7 @@ pub(crate) fn kind_of<D: Disk>(disk: &mut D, size: usize) -> Result<FileKind, De
     ensures exact { IfOk result
         (λ kind. D.is_honest disk.new → kind ≡ kind_of size (D.content disk.old)) }
 {
-    if has_disk(disk, size)? {
+    if has_disk(disk)? {
         return Ok(FileKind::Disk);
     }
     if is_free(disk, size)? {

@@ -1,6 +1,6 @@
 //! The rules by which callers are found.
 use crate::names::Names;
-use ckrt_look_callers::Rule;
+use ckrt_look_recording::Rule;
 use std::alloc::{AllocError, Global};
 
 impl Names {

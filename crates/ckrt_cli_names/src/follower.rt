@@ -1,7 +1,7 @@
 //! A recording that is made once more beside the lines that tell of it, up to the place of each.
 use ckrt_events::Event;
-use ckrt_look_callers::Frame;
 use ckrt_look_calls::is_stopped;
+use ckrt_look_recording::Frame;
 use ckrt_machine::Machine;
 use ckrt_memory::Memory;
 use ckrt_thread::{Thread, ThreadId};

@@ -2,7 +2,7 @@
 use crate::fault::NamesFault;
 use crate::rows::line_length;
 use crate::scan::{decimal, hex_word};
-use ckrt_look_callers::{Base, Rule, Saved, Stretch};
+use ckrt_look_recording::{Base, Rule, Saved, Stretch};
 use std::alloc::{AllocError, Global};
 
 /// The code of a kit, and what is known of it.

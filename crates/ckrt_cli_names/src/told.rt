@@ -9,7 +9,7 @@ use crate::piece::Form;
 use crate::renamed::{find, function_of, push_offset};
 use crate::scan::word_end;
 use ckrt_events::Event;
-use ckrt_look_callers::{Call, Frame, call_of, name_of};
+use ckrt_look_recording::{Call, Frame, call_of, name_of};
 use ckrt_machine::Machine;
 use ckrt_memory::Memory;
 use std::alloc::{AllocError, Global};

@@ -1,7 +1,7 @@
 -- How the program tells what a drive came to: a line on standard error.
 use Rattle.std.specs.Prelude.{ℕ, nat_eq, List, [], ◌∷◌, ◌++◌, codes, if◌then◌else◌, Option, Some, None}
-use Rattle.ckrt_state.specs.declared.table.Status.{Status}
-use Rattle.ckrt_state.specs.declared.table.Status.TheVariants as status
+use Rattle.ckrt_calls.specs.declared.table.Status.{Status}
+use Rattle.ckrt_calls.specs.declared.table.Status.TheVariants as status
 use Rattle.ckrt_inspect.specs.Texts.{hex_text, status_text}
 use Rattle.ckrt_inspect.specs.declared.metrics.Standing.{Standing}
 use Rattle.ckrt_inspect.specs.declared.metrics.Standing.TheVariants as stands
@@ -9,7 +9,7 @@ use Rattle.ckrt_schedule.specs.declared.next.ScheduleEnd.{ScheduleEnd}
 use Rattle.ckrt_schedule.specs.declared.next.ScheduleEnd.TheVariants.{Ended, WaitsForInput, Deadlock, Enough}
 use Rattle.ckrt_drive.specs.declared.step_done.StepDone.{StepDone}
 use Rattle.ckrt_drive.specs.declared.step_done.StepDone.TheVariants.{Stopped}
-use Rattle.ckrt_cli_faults.specs.declared.driven.Driven.{Driven}
+use Rattle.ckrt_cli_reports.specs.declared.driven.Driven.{Driven}
 
 -- the address that a fault is about, behind a space
 abbrev pub address_text : Option ℕ → List ℕ

@@ -6,11 +6,11 @@ use Rattle.ckrt_disk.specs.Writing.{AppendsPart}
 use Rattle.ckrt_main.specs.declared.fault.ServeFault.TheVariants as serve
 use Rattle.ckrt_cli_words.specs.declared.job.WordsFault.{WordsFault}
 use Rattle.ckrt_cli_words.specs.declared.job.WordsFault.TheVariants as words
-use Rattle.ckrt_cli_faults.specs.Names.{name_of}
-use Rattle.ckrt_cli_faults.specs.declared.done.Done.{Done}
-use Rattle.ckrt_cli_faults.specs.declared.done.Done.TheVariants as done
-use Rattle.ckrt_cli_faults.specs.declared.fault.JobFault.{JobFault}
-use Rattle.ckrt_cli_faults.specs.declared.fault.JobFault.TheVariants as job
+use Rattle.ckrt_cli_reports.specs.Names.{name_of}
+use Rattle.ckrt_cli_reports.specs.declared.done.Done.{Done}
+use Rattle.ckrt_cli_reports.specs.declared.done.Done.TheVariants as done
+use Rattle.ckrt_cli_reports.specs.declared.fault.JobFault.{JobFault}
+use Rattle.ckrt_cli_reports.specs.declared.fault.JobFault.TheVariants as job
 use Rattle.ckrt_cli_reports.specs.Ends.{end_line}
 
 -- the line on standard output for a disk that was made

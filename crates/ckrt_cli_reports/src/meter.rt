@@ -7,7 +7,7 @@ use crate::hunted::HuntTimes;
 use crate::rhythm::Rhythm;
 use crate::status::StatusFile;
 use crate::table::TableFile;
-use ckrt_cli_faults::{Meter, Watch};
+use crate::watch::{Meter, Watch};
 use ckrt_cli_files::FileFault;
 use ckrt_disk::Disk;
 use ckrt_drive::{Onlooker, StepDone};

@@ -2,23 +2,25 @@
 ghost use Rattle.std.specs.Prelude.{◌≡◌, ◌≤◌, ◌<◌, ◌+◌, ◌++◌, ◌∷◌, [], length, decimal, true, false, OnOk, OnErr, Err, Ok};
 ghost use Rattle.std.specs.Io.KnownBytes.{Appends};
 ghost use Rattle.arrayvec.specs.ArrayVec.{array_vec_len};
-ghost use Rattle.ckrt_state.specs.declared.table.Status.TheVariants.{Exited, Faulted};
+ghost use Rattle.ckrt_calls.specs.declared.table.Status.TheVariants.{Exited, Faulted};
 ghost use Rattle.ckrt_inspect.specs.Texts.{hex_text, status_text};
 ghost use Rattle.ckrt_cli_reports.specs.Ends.{address_text, end_line, end_text, ended_text, hex_between, hint_text, place_text, unbegun_text};
 ghost use Rattle.ckrt_cli_reports.specs.Lines.{EndsWith, ReportsOutcome, ReportsWords, Says, SaysLine, fault_line, formatted_line, version_line};
-ghost use Rattle.ckrt_cli_faults.specs.Statuses.{status_of, status_of_words};
+ghost use Rattle.ckrt_cli_reports.specs.Statuses.{status_of, status_of_words};
 
+use crate::done::Done;
+use crate::driven::Driven;
+use crate::fault::JobFault;
 use crate::reporter::{Reporter, Unsaid};
 use crate::sentences::{Piece, numbers_of, subject_of};
 use crate::version::VERSION;
 use arrayvec::ArrayVec;
-use ckrt_cli_faults::{Done, Driven, JobFault};
+use ckrt_calls::Status;
 use ckrt_cli_files::JobFile;
 use ckrt_cli_words::{Job, WordsFault};
 use ckrt_main::write_reply;
 use ckrt_rv32i::Cause;
 use ckrt_schedule::ScheduleEnd;
-use ckrt_state::Status;
 use ckrt_thread::ThreadId;
 use std::io::Write;
 

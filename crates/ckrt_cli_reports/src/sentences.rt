@@ -1,5 +1,6 @@
 //! What is said of a fault: of its file, of its numbers, and of numbers in the words that are out of their ranges.
-use ckrt_cli_faults::{JobFault, config_for, is_choice, is_target, is_time};
+use crate::fault::JobFault;
+use crate::ranges::{config_for, is_choice, is_target, is_time};
 use ckrt_cli_files::JobFile;
 use ckrt_cli_words::{DriveJob, HuntJob, Job, TimelineJob};
 use ckrt_events::LONG_RUN_LIMIT;

@@ -3,10 +3,10 @@ ghost use Rattle.std.specs.Prelude.{◌≡◌, OnOk};
 ghost use Rattle.ckrt_inspect.specs.Metrics.{all_metrics};
 
 use crate::replaced::{Content, Replaced};
-use ckrt_cli_faults::DrivePaths;
+use crate::watch::DrivePaths;
+use ckrt_calls::Tables;
 use ckrt_cli_files::FileFault;
 use ckrt_inspect::{Readings, push_metrics};
-use ckrt_state::Tables;
 use std::alloc::Global;
 use std::fs::{File, Files};
 

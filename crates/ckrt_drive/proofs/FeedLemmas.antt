@@ -7,9 +7,9 @@ use Rattle.ckrt_recovery.specs.Accepts.{Accepts}
 use Rattle.ckrt_recovery.proofs.AcceptLemmas.{accepts_kept}
 use Rattle.ckrt_events.specs.declared.event.Event.{Event}
 use Rattle.ckrt_stored.specs.Programs.{Program}
-use Rattle.ckrt_record.specs.Keeping.{IsCommit, KeepsInput, RecoversFedEither, RepresentsFed, SavesInput}
-use Rattle.ckrt_record.proofs.CallLemmas.{commit_keeps, commit_moment}
-use Rattle.ckrt_record.proofs.KeepLemmas.{kept_input, more_input}
+use Rattle.ckrt_drive.specs.Keeping.{IsCommit, KeepsInput, RecoversFedEither, RepresentsFed, SavesInput}
+use Rattle.ckrt_drive.proofs.CallLemmas.{commit_keeps, commit_moment}
+use Rattle.ckrt_drive.proofs.KeepLemmas.{kept_input, more_input}
 use Rattle.ckrt_recovery.specs.View.{view_of}
 use Rattle.ckrt_recovery.specs.declared.fault.CommitFault.{CommitFault}
 use Rattle.ckrt_recovery.specs.declared.session.Session.{Session}

@@ -4,7 +4,7 @@ use Rattle.ckrt_thread.specs.declared.records.Wait.{Wait}
 use Rattle.ckrt_thread.specs.declared.records.Object.TheVariants.{Input}
 use Rattle.ckrt_thread.specs.State.{is_ready}
 use Rattle.ckrt_thread.specs.Waits.{is_for}
-use Rattle.ckrt_state.specs.declared.table.Tables.{Tables}
+use Rattle.ckrt_calls.specs.declared.table.Tables.{Tables}
 use Rattle.ckrt_machine.specs.Steps.{hart_of}
 use Rattle.ckrt_machine.specs.Runs.{is_running}
 use Rattle.ckrt_schedule.specs.declared.next.ScheduleEnd.{ScheduleEnd}

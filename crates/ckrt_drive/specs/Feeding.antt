@@ -1,13 +1,13 @@
 -- What a drive with an input keeps of what its events took of it.
 use Rattle.std.specs.Prelude.{◌≡◌, ◌⊎◌, ◌≤◌, ◌<◌, ◌+◌, ℕ, List, ◌++◌, Option, Some, None, IfSome}
-use Rattle.ckrt_checkpoint.specs.Layout.{size_needed}
+use Rattle.ckrt_stored.specs.Layout.{size_needed}
 use Rattle.ckrt_disk.specs.Disk.{LeavesOnly}
 use Rattle.ckrt_disk.specs.declared.disk.Disk.{Ghosts}
 use Rattle.ckrt_events.specs.declared.event.Event.{Event}
 use Rattle.ckrt_stored.specs.Programs.{Program}
 use Rattle.ckrt_schedule.specs.Taken.{taken_by}
-use Rattle.ckrt_record.specs.Keeping.{RecoversFedEither, RepresentsFed}
-use Rattle.ckrt_record.specs.Slot.{RECORD_BYTES, TAKEN_LIMIT}
+use Rattle.ckrt_drive.specs.Keeping.{RecoversFedEither, RepresentsFed}
+use Rattle.ckrt_drive.specs.Slot.{RECORD_BYTES, TAKEN_LIMIT}
 use Rattle.ckrt_recovery.specs.declared.session.Session.{Session}
 
 -- From old to new a session took these events, told that those before took that many bytes of input. Whatever events old represents and keeps

@@ -3,7 +3,7 @@
 -- A drive remembers nothing of it but how many events are left to it, and how many bytes of its input the program has taken.
 use Rattle.std.specs.Prelude.{ℕ, ◌+◌, ◌-◌, ◌*◌, ◌==◌, ◌||◌, ◌&&◌, nat_lt, nat_le, Bool, true, false, if◌then◌else◌, Option, Some, None, Result, Ok, Err}
 use Rattle.ckrt_journal.specs.Chain.{FRAME_BYTES}
-use Rattle.ckrt_state.specs.declared.table.Tables.{Tables}
+use Rattle.ckrt_calls.specs.declared.table.Tables.{Tables}
 use Rattle.ckrt_events.specs.Bytes.{BATCH_LIMIT}
 use Rattle.ckrt_events.specs.declared.event.Event.{Event}
 use Rattle.ckrt_machine.specs.declared.event.Refusal.TheVariants.{OutputFull}

@@ -6,10 +6,10 @@ ghost use Rattle.ckrt_schedule.specs.Next.{next_input};
 ghost use Rattle.ckrt_schedule.specs.Taken.{taken_by};
 ghost use Rattle.ckrt_schedule.specs.Next.{given_in};
 
+use ckrt_calls::Tables;
 use ckrt_disk::{DeviceFault, Disk};
 use ckrt_events::Event;
 use ckrt_schedule::{PIECE, next_input};
-use ckrt_state::Tables;
 
 /// What a drive gives its program as input: the bytes of a file and then its end, or nothing.
 pub trait Feed {

@@ -7,9 +7,9 @@ ghost use Rattle.ckrt_drive.specs.Plan.{next, schedule_of};
 
 use crate::options::Options;
 use crate::supply::Supply;
+use ckrt_calls::Status;
 use ckrt_machine::Machine;
 use ckrt_schedule::{Next, Schedule, ScheduleEnd, next_event};
-use ckrt_state::Status;
 
 /// By what the events of a drive are chosen.
 fn schedule_of(options: &Options) -> Schedule

@@ -17,13 +17,14 @@ use crate::fault::DriveFault;
 use crate::feed::Feed;
 use crate::options::Options;
 use crate::plan::next_for;
+use crate::saving::RECORD_BYTES;
+use crate::slot::TAKEN_LIMIT;
 use crate::step_done::StepDone;
 use crate::supply::Supply;
 use ckrt_disk::{DeviceFault, Disk, write_synced};
 use ckrt_events::Event;
 use ckrt_journal::FRAME_LIMIT;
 use ckrt_machine::Refusal;
-use ckrt_record::{RECORD_BYTES, TAKEN_LIMIT};
 use ckrt_recovery::{CommitFault, Session, SubmitFault};
 use ckrt_schedule::{Next, taken_by};
 
@@ -59,7 +60,7 @@ fn checkpoint_recorded<D: Disk>(
     if session.spare_room() < RECORD_BYTES || taken >= TAKEN_LIMIT {
         return Err(DriveFault::NoRecord);
     }
-    match ckrt_record::checkpoint(session, taken) {
+    match crate::saving::checkpoint(session, taken) {
         Ok(_) => Ok(StepDone::Checkpointed),
         Err(CommitFault::GenerationsUsed) => Err(DriveFault::GenerationsUsed),
         Err(CommitFault::Failed) => Err(DriveFault::Device),

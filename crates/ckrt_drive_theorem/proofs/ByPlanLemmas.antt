@@ -21,8 +21,8 @@ use Rattle.ckrt_drive.proofs.PlannedLemmas.{planned_event}
 use Rattle.ckrt_events.specs.declared.event.Event.{Event}
 use Rattle.ckrt_stored.specs.Programs.{Program, output_after, state_after}
 use Rattle.ckrt_schedule.specs.Taken.{taken_by}
-use Rattle.ckrt_record.proofs.FedLemmas.{taken-append}
-use Rattle.ckrt_state.specs.declared.table.Tables.{Tables}
+use Rattle.ckrt_drive.proofs.FedLemmas.{taken-append}
+use Rattle.ckrt_calls.specs.declared.table.Tables.{Tables}
 use Rattle.ckrt_machine.specs.Runs.{is_running}
 use Rattle.ckrt_machine.specs.Steps.{State}
 use Rattle.ckrt_disk.specs.Lists.{IsBeginningOf}

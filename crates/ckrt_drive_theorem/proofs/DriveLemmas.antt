@@ -13,10 +13,10 @@ use Rattle.ckrt_stored.specs.Recovery.{Recovered, Recovers}
 use Rattle.ckrt_stored.specs.declared.fault.RecoverFault.{RecoverFault}
 use Rattle.ckrt_stored.proofs.RecoverLemmas.{recovers_once}
 use Rattle.ckrt_recovery.specs.Recovered.{IsRecovered}
-use Rattle.ckrt_record.specs.Fed.{IsFed}
-use Rattle.ckrt_record.specs.Keeping.{KeepsInput}
-use Rattle.ckrt_record.proofs.FedLemmas.{as_recovered}
-use Rattle.ckrt_record.proofs.KeepLemmas.{keeps_content}
+use Rattle.ckrt_drive.specs.Fed.{IsFed}
+use Rattle.ckrt_drive.specs.Keeping.{KeepsInput}
+use Rattle.ckrt_drive.proofs.FedLemmas.{as_recovered}
+use Rattle.ckrt_drive.proofs.KeepLemmas.{keeps_content}
 use Rattle.ckrt_disk.specs.Lists.{IsBeginningOf}
 use Rattle.ckrt_recovery.specs.Represents.{Represents, acknowledged_of}
 use Rattle.ckrt_recovery.specs.View.{View, view_of}

@@ -1,8 +1,8 @@
 -- Drives with an input: what each is told, and what they give of it.
 use Rattle.std.proofs.Common.{◌≡◌, ℕ, Option, Some, None, List, [], ◌∷◌, ◌++◌, length, drop, Result, Ok, refl, sym, ◌∙◌, ap, subst}
 use Rattle.std.specs.Prelude.{IfSome}
-use Rattle.ckrt_checkpoint.specs.declared.area.Area.{Area}
-use Rattle.ckrt_checkpoint.specs.declared.config.Config.{Config}
+use Rattle.ckrt_stored.specs.declared.area.Area.{Area}
+use Rattle.ckrt_stored.specs.declared.config.Config.{Config}
 use Rattle.ckrt_disk.specs.Frame.{MayBeLeft}
 use Rattle.ckrt_disk.specs.declared.disk.Disk.{Ghosts}
 use Rattle.ckrt_events.specs.declared.event.Event.{Event}
@@ -15,9 +15,9 @@ use Rattle.ckrt_schedule.proofs.NextLemmas.{beginning, end_behind, goes_on}
 use Rattle.ckrt_journal.specs.declared.fault.JournalFault.{JournalFault}
 use Rattle.ckrt_machine.specs.Events.{step}
 use Rattle.ckrt_machine.specs.Steps.{State}
-use Rattle.ckrt_record.specs.Fed.{IsFed}
-use Rattle.ckrt_record.specs.Offset.{journaled, offset_from, or_said, saved_offset, taken_in, with_saved}
-use Rattle.ckrt_record.proofs.FedLemmas.{as_recovered, begins, taken-append}
+use Rattle.ckrt_drive.specs.Fed.{IsFed}
+use Rattle.ckrt_drive.specs.Offset.{journaled, offset_from, or_said, saved_offset, taken_in, with_saved}
+use Rattle.ckrt_drive.proofs.FedLemmas.{as_recovered, begins, taken-append}
 use Rattle.ckrt_disk.specs.Lists.{IsBeginningOf}
 use Rattle.ckrt_drive_theorem.specs.ByPlan.{Course}
 use Rattle.ckrt_drive_theorem.specs.Drives.{AllHaveInput, AllKeep, AllOnCourse, AllTold, AllToldByRecord, ComeBehind, IsTold, IsToldByRecord, Keeps, OneDrive, course_of, past_behind}

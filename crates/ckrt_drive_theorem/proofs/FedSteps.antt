@@ -8,9 +8,9 @@ use Rattle.ckrt_disk.specs.declared.disk.Disk.{Ghosts}
 use Rattle.ckrt_events.specs.declared.event.Event.{Event}
 use Rattle.ckrt_stored.specs.Programs.{Program}
 use Rattle.ckrt_schedule.specs.Taken.{taken_by}
-use Rattle.ckrt_record.specs.Fed.{IsFed}
-use Rattle.ckrt_record.specs.Keeping.{KeepsInput, RecoversFedEither}
-use Rattle.ckrt_record.proofs.FedLemmas.{as_recovered}
+use Rattle.ckrt_drive.specs.Fed.{IsFed}
+use Rattle.ckrt_drive.specs.Keeping.{KeepsInput, RecoversFedEither}
+use Rattle.ckrt_drive.proofs.FedLemmas.{as_recovered}
 use Rattle.ckrt_disk.specs.Lists.{IsBeginningOf}
 use Rattle.ckrt_recovery.specs.Represents.{RecoversToEither, Represents, acknowledged_of}
 use Rattle.ckrt_recovery.specs.declared.session.Session.{Session}

@@ -8,7 +8,7 @@ use Rattle.ckrt_stored.proofs.ReplayLemmas.{state-append}
 use Rattle.ckrt_schedule.specs.Next.{AreGiven, IsNext, next_input}
 use Rattle.ckrt_schedule.specs.Taken.{bytes_of, taken_by}
 use Rattle.ckrt_schedule.proofs.NextLemmas.{beginning, end_behind}
-use Rattle.ckrt_record.proofs.FedLemmas.{taken-append}
+use Rattle.ckrt_drive.proofs.FedLemmas.{taken-append}
 use Rattle.ckrt_schedule.specs.Next.{given_in}
 use Rattle.ckrt_drive.proofs.GivenLemmas.{IsNoInput, given_or_none}
 use Rattle.ckrt_drive_theorem.specs.ByPlan.{AreByPlan, Course, IsByPlan}

@@ -8,12 +8,12 @@ use Rattle.ckrt_disk.specs.Frame.{IsOnlyRead, MayBeLeft}
 use Rattle.ckrt_disk.specs.declared.disk.Disk.{Ghosts}
 use Rattle.ckrt_events.specs.declared.event.Event.{Event}
 use Rattle.ckrt_journal.specs.Chain.{batches_of, journal_bytes}
-use Rattle.ckrt_checkpoint.specs.declared.area.Area.{Area}
-use Rattle.ckrt_checkpoint.specs.declared.config.Config.{Config}
-use Rattle.ckrt_checkpoint.specs.declared.header.Header.{Header}
-use Rattle.ckrt_checkpoint.specs.Areas.{area_of, newest_area}
-use Rattle.ckrt_checkpoint.specs.Layout.{area_at, area_size, header_in, header_of, is_open, is_valid, journal_at, journal_of, memory_at, memory_of, memory_size, number_at, size_needed, tables_at, tables_of}
-use Rattle.ckrt_checkpoint.proofs.PickLemmas.{area_end}
+use Rattle.ckrt_stored.specs.declared.area.Area.{Area}
+use Rattle.ckrt_stored.specs.declared.config.Config.{Config}
+use Rattle.ckrt_stored.specs.declared.header.Header.{Header}
+use Rattle.ckrt_stored.specs.Areas.{area_of, newest_area}
+use Rattle.ckrt_stored.specs.Layout.{area_at, area_size, header_in, header_of, is_open, is_valid, journal_at, journal_of, memory_at, memory_of, memory_size, number_at, size_needed, tables_at, tables_of}
+use Rattle.ckrt_stored.proofs.PickLemmas.{area_end}
 use Rattle.ckrt_stored.specs.declared.fault.RecoverFault.{RecoverFault}
 use Rattle.ckrt_stored.specs.declared.fault.RecoverFault.TheVariants.{NotFormatted, Version, Damaged}
 use Rattle.ckrt_drive.specs.Stages.{Stage}
@@ -24,10 +24,10 @@ use Rattle.ckrt_stored.specs.Superblock.{MAGIC, is_known_superblock, superblock_
 use Rattle.ckrt_stored.proofs.AreaLemmas.{IsInUse, is_in_use}
 use Rattle.ckrt_stored.proofs.GrowthLemmas.{used_by, uses}
 use Rattle.ckrt_stored.proofs.RecoverLemmas.{IsKnown, known, same_found, stays_by}
-use Rattle.ckrt_record.specs.Fed.{IsFed, IsFedIn, RecoversFed}
-use Rattle.ckrt_record.specs.Offset.{is_first, offset_from, recorded_in, saved_offset}
-use Rattle.ckrt_record.specs.declared.slot.Slot.{Slot}
-use Rattle.ckrt_record.specs.Slot.{SLOT_BYTES, slot_at, slot_in, slot_of}
+use Rattle.ckrt_drive.specs.Fed.{IsFed, IsFedIn, RecoversFed}
+use Rattle.ckrt_drive.specs.Offset.{is_first, offset_from, recorded_in, saved_offset}
+use Rattle.ckrt_drive.specs.declared.slot.Slot.{Slot}
+use Rattle.ckrt_drive.specs.Slot.{SLOT_BYTES, slot_at, slot_in, slot_of}
 use Rattle.ckrt_drive_theorem.specs.Drives.{StopLeaves}
 use Rattle.ckrt_drive_theorem.specs.Lengthening.{IsLengthened, IsLonger, LengthenedTells, LengtheningKeeps, RecoverLonger}
 use Rattle.ckrt_drive_theorem.specs.Together.{IsLeftSince, Past, StandTogether, StandsFed}

@@ -12,7 +12,7 @@ use Rattle.ckrt_events.specs.declared.event.Event.{Event}
 use Rattle.ckrt_stored.specs.Programs.{RecoversTo, output_after}
 use Rattle.ckrt_schedule.specs.Taken.{taken_by}
 use Rattle.ckrt_recovery.specs.Recovered.{IsRecovered}
-use Rattle.ckrt_record.specs.Offset.{offset_from}
+use Rattle.ckrt_drive.specs.Offset.{offset_from}
 use Rattle.ckrt_disk.specs.Lists.{IsBeginningOf}
 use Rattle.ckrt_recovery.specs.Represents.{Represents}
 use Rattle.ckrt_recovery.specs.View.{view_of}

@@ -17,7 +17,7 @@ use Rattle.ckrt_events.specs.declared.event.Event.{Event}
 use Rattle.ckrt_memory.specs.Reasons.{Meets}
 use Rattle.ckrt_machine.specs.Steps.{State, hart_of}
 use Rattle.ckrt_machine.specs.RunsTo.{meets_for, meets_with}
-use Rattle.ckrt_look_steps.specs.Accesses.{fetched, may_access}
+use Rattle.ckrt_look_recording.specs.Accesses.{fetched, may_access}
 use Rattle.ckrt_gdb_history.specs.declared.position.Position.{Position}
 use Rattle.ckrt_gdb_history.specs.declared.stop.Watch.{Watch}
 use Rattle.ckrt_gdb_history.specs.declared.stop.WatchKind.{WatchKind}

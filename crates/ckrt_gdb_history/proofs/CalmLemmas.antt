@@ -10,8 +10,8 @@ use Rattle.ckrt_machine.specs.Steps.{State, hart_of}
 use Rattle.ckrt_machine.specs.Runs.{Stepping}
 use Rattle.ckrt_machine.specs.RunsTo.{meets_after, meets_for, meets_on, meets_with}
 use Rattle.ckrt_machine.specs.Events.{Machine}
-use Rattle.ckrt_look_steps.specs.Quiet.{IsCalm, or_call}
-use Rattle.ckrt_look_steps.proofs.QuietLemmas.{calm_after, met_at_calls, neither}
+use Rattle.ckrt_look_recording.specs.Quiet.{IsCalm, or_call}
+use Rattle.ckrt_look_recording.proofs.QuietLemmas.{calm_after, met_at_calls, neither}
 use Rattle.ckrt_gdb_history.specs.declared.position.Position.{Position}
 use Rattle.ckrt_gdb_history.specs.Engine.{IsAt, IsInto}
 use Rattle.ckrt_gdb_history.specs.Positions.{IsBefore, IsUpTo, into_first, into_run, run_in, state_at, state_before}

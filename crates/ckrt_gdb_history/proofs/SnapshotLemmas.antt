@@ -1,7 +1,7 @@
 -- States that are kept on the way through the events.
 use Rattle.std.proofs.Common.{◌≡◌, ℕ, zero, suc, ◌+◌, ◌<◌, List, [], ◌∷◌, ◌++◌, take, drop, length, Some, slice_get, slice_set, refl, sym, ap, ◌∙◌, subst, arith, add-one, ◌≤◌}
 use Rattle.ckrt_events.specs.declared.event.Event.{Event}
-use Rattle.ckrt_state.specs.WellFormed.{IsWellFormed}
+use Rattle.ckrt_calls.specs.WellFormed.{IsWellFormed}
 use Rattle.ckrt_machine.specs.Steps.{State}
 use Rattle.ckrt_machine.specs.Events.{AllAccepted, Machine, step}
 use Rattle.ckrt_machine.proofs.Fixed.{same_harts_after}

@@ -1,7 +1,7 @@
 -- What holds of a machine that goes through events.
 use Rattle.std.specs.Prelude.{◌≡◌, ◌+◌, ◌<◌, ◌≤◌, ℕ, List, [], ◌∷◌, length, vec_capacity}
 use Rattle.ckrt_events.specs.declared.event.Event.{Event}
-use Rattle.ckrt_state.specs.WellFormed.{IsWellFormed}
+use Rattle.ckrt_calls.specs.WellFormed.{IsWellFormed}
 use Rattle.ckrt_machine.specs.Steps.{State}
 use Rattle.ckrt_machine.specs.Events.{AllAccepted, IsAccepted, Machine, step}
 use Rattle.ckrt_gdb_history.specs.declared.position.Position.{Position}

@@ -1,6 +1,6 @@
 -- By a schedule (this project's choice): behind its last event a history goes on with those that a schedule has next.
 use Rattle.std.specs.Prelude.{◌≡◌, ◌≤◌, ℕ, zero, suc, ◌+◌, ◌-◌, ◌^◌, min, nat_lt, if◌then◌else◌, List, [], ◌∷◌, ◌++◌, length, Option, Some, None, Result, Ok, Err}
-use Rattle.ckrt_state.specs.declared.table.Status.{Status}
+use Rattle.ckrt_calls.specs.declared.table.Status.{Status}
 use Rattle.ckrt_events.specs.declared.event.Event.{Event}
 use Rattle.ckrt_machine.specs.Steps.{State}
 use Rattle.ckrt_machine.specs.Events.{refusal_of, step}

@@ -5,7 +5,7 @@ use Rattle.ckrt_memory.specs.Reasons.{Meets}
 use Rattle.ckrt_events.specs.declared.event.Event.{Event}
 use Rattle.ckrt_machine.specs.Steps.{State}
 use Rattle.ckrt_machine.specs.RunsTo.{meets_on}
-use Rattle.ckrt_look_steps.specs.Quiet.{IsCalm}
+use Rattle.ckrt_look_recording.specs.Quiet.{IsCalm}
 use Rattle.ckrt_gdb_history.specs.declared.position.Position.{Position}
 use Rattle.ckrt_gdb_history.specs.declared.reason.SeenByte.{SeenByte}
 use Rattle.ckrt_gdb_history.specs.declared.stop.Breakpoint.{Breakpoint}

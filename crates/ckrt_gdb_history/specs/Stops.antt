@@ -17,7 +17,7 @@ use Rattle.ckrt_thread.specs.declared.records.Thread.{Thread}
 use Rattle.ckrt_thread.specs.declared.records.Thread.TheVariants as thread
 use Rattle.ckrt_events.specs.declared.event.Event.{Event}
 use Rattle.ckrt_machine.specs.Steps.{State, hart_of}
-use Rattle.ckrt_look_steps.specs.Accesses.{fetched, may_access}
+use Rattle.ckrt_look_recording.specs.Accesses.{fetched, may_access}
 use Rattle.ckrt_gdb_history.specs.declared.position.Position.{Position}
 use Rattle.ckrt_gdb_history.specs.declared.stop.Breakpoint.{Breakpoint}
 use Rattle.ckrt_gdb_history.specs.declared.stop.Watch.{Watch}

@@ -8,8 +8,8 @@ ghost use Rattle.ckrt_schedule.specs.Schedules.{IsInRangeNext};
 
 use crate::forking::AppendFault;
 use crate::history::History;
+use ckrt_calls::Status;
 use ckrt_schedule::{Next, Schedule, ScheduleEnd, next_event};
-use ckrt_state::Status;
 
 impl History {
     /// Why there is no further event where as many were made as were to be.

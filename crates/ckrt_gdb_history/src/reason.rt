@@ -1,13 +1,13 @@
 //! What a search looks for inside a run.
 ghost use Rattle.std.specs.Prelude.{◌≡◌, ◌≤◌, ◌<◌, ◌+◌, ◌++◌, ◌∷◌, [], length};
 ghost use Rattle.ckrt_gdb_history.specs.Stops.{width, widths};
-ghost use Rattle.ckrt_look_steps.specs.Quiet.{or_call};
+ghost use Rattle.ckrt_look_recording.specs.Quiet.{or_call};
 ghost use Rattle.ckrt_gdb_history.specs.Search.{are_there, byte_if, is_at, is_there, may_stop, or_access, seen_byte, seen_from, seen_in, seen_under};
 
 use crate::accessing::Accessing;
 use crate::stop::{Breakpoint, Watch, WatchKind};
 use arrayvec::ArrayVec;
-use ckrt_look_steps::AtCalls;
+use ckrt_look_recording::AtCalls;
 use ckrt_memory::StopReason;
 
 /// The address of the first byte of a memory.

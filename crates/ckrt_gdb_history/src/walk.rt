@@ -13,7 +13,7 @@ use crate::reason::{OrCall, Sought, SoughtOrAccess};
 use crate::replay::{finish, go_into, go_into_until, run_in};
 use crate::stop::Stops;
 use ckrt_events::Event;
-use ckrt_look_steps::calm_on;
+use ckrt_look_recording::calm_on;
 use ckrt_machine::Machine;
 use ckrt_memory::StopReason;
 use ckrt_thread::ThreadId;

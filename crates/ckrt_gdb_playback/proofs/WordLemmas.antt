@@ -2,13 +2,13 @@
 use Rattle.std.proofs.Common.{◌≡◌, ◌⊎◌, inl, inr, Result, Ok, Err, ℕ, zero, suc, ◌+◌, ◌-◌, ◌*◌, ◌<◌, ◌≤◌, nat_le, Bool, true, false, if◌then◌else◌, List, [], ◌∷◌, ◌++◌, length, drop, Option, Some, None, slice_get, refl, sym, ap, subst, ◌∙◌, arith, length-append}
 use Rattle.std.proofs.lemmas.Bool.{false≢true, leb-true}
 use Rattle.std.specs.Prelude.{cond, IfSome, IsOk, OnOk, is_some}
-use Rattle.ckrt_gdb_packets.specs.declared.payload.Full.{Full}
+use Rattle.ckrt_gdb_forms.specs.declared.payload.Full.{Full}
 use Rattle.std.specs.List.{filter}
 use Rattle.std.specs.Option.{option_flatten}
 use Rattle.ckrt_thread.specs.State.{holds}
 use Rattle.ckrt_gdb_history.specs.declared.stop.Watch.{Watch}
 use Rattle.ckrt_gdb_history.specs.Stops.{widths}
-use Rattle.ckrt_gdb_packets.specs.Numbers.{byte_text, hex_text}
+use Rattle.ckrt_gdb_forms.specs.Numbers.{byte_text, hex_text}
 use Rattle.ckrt_gdb_playback.specs.Look.{begin_with, byte_there, bytes_there, fitting}
 use Rattle.ckrt_gdb_playback.specs.Standing.{hart_from}
 

@@ -8,8 +8,8 @@ use Rattle.ckrt_thread.specs.declared.records.Thread.TheVariants as thread
 use Rattle.ckrt_thread.specs.State as threads
 use Rattle.ckrt_rv32i.specs.Memory.{byte_at, is_valid}
 use Rattle.ckrt_rv32i.specs.declared.memory_bus.Size.TheVariants as size
-use Rattle.ckrt_gdb_packets.specs.Numbers.{byte_text, hex_text}
-use Rattle.ckrt_gdb_packets.specs.Replies.{threads_text}
+use Rattle.ckrt_gdb_forms.specs.Numbers.{byte_text, hex_text}
+use Rattle.ckrt_gdb_forms.specs.Replies.{threads_text}
 
 -- what a packet has room for: a payload of at most 4,096 bytes, or none
 abbrev pub fitting : List ℕ → List ℕ

@@ -7,8 +7,8 @@ use Rattle.ckrt_gdb_history.specs.declared.stop.WatchKind.{WatchKind}
 use Rattle.ckrt_gdb_history.specs.declared.stop.WatchKind.TheVariants as kind
 use Rattle.ckrt_gdb_history.specs.declared.stop.Stops.{Stops}
 use Rattle.ckrt_gdb_history.specs.Stops.{widths}
-use Rattle.ckrt_gdb_packets.specs.declared.request.Mark.{Mark}
-use Rattle.ckrt_gdb_packets.specs.declared.request.Mark.TheVariants.{Execution, Writes, Reads, Accesses}
+use Rattle.ckrt_gdb_forms.specs.declared.request.Mark.{Mark}
+use Rattle.ckrt_gdb_forms.specs.declared.request.Mark.TheVariants.{Execution, Writes, Reads, Accesses}
 use Rattle.ckrt_gdb_playback.specs.declared.marks.Marked.{Marked}
 use Rattle.ckrt_gdb_playback.specs.declared.marks.Marked.TheVariants.{Done, Full}
 

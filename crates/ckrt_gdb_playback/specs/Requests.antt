@@ -1,16 +1,16 @@
 -- What the stub answers while nobody moves.
 use Rattle.std.specs.Prelude.{ℕ, if◌then◌else◌, List, [], codes, Option, Some, None}
 use Rattle.ckrt_thread.specs.State as threads
-use Rattle.ckrt_state.specs.declared.table.Tables.{Tables}
+use Rattle.ckrt_calls.specs.declared.table.Tables.{Tables}
 use Rattle.ckrt_machine.specs.Steps.{State}
-use Rattle.ckrt_gdb_packets.specs.Numbers.{hex_text}
-use Rattle.ckrt_gdb_packets.specs.Replies.{features_text, part_text, stop_text}
-use Rattle.ckrt_gdb_packets.specs.declared.request.Choice.{Choice}
-use Rattle.ckrt_gdb_packets.specs.declared.request.Choice.TheVariants.{All, Any, One}
-use Rattle.ckrt_gdb_packets.specs.declared.request.Motion.{Motion}
-use Rattle.ckrt_gdb_packets.specs.declared.request.Motion.TheVariants.{Continue, Step, StepOut}
-use Rattle.ckrt_gdb_packets.specs.declared.request.Request.{Request}
-use Rattle.ckrt_gdb_packets.specs.declared.request.Request.TheVariants.{Features, WithoutAcknowledgements, Extended, LastStop, Registers, Memory, IsAlive, FirstThreads, MoreThreads, ThreadText, Motions, Move, StepBack, ContinueBack, Restart, IsAttached, Symbols, Description, Change, Malformed, Unknown}
+use Rattle.ckrt_gdb_forms.specs.Numbers.{hex_text}
+use Rattle.ckrt_gdb_forms.specs.Replies.{features_text, part_text, stop_text}
+use Rattle.ckrt_gdb_forms.specs.declared.request.Choice.{Choice}
+use Rattle.ckrt_gdb_forms.specs.declared.request.Choice.TheVariants.{All, Any, One}
+use Rattle.ckrt_gdb_forms.specs.declared.request.Motion.{Motion}
+use Rattle.ckrt_gdb_forms.specs.declared.request.Motion.TheVariants.{Continue, Step, StepOut}
+use Rattle.ckrt_gdb_forms.specs.declared.request.Request.{Request}
+use Rattle.ckrt_gdb_forms.specs.declared.request.Request.TheVariants.{Features, WithoutAcknowledgements, Extended, LastStop, Registers, Memory, IsAlive, FirstThreads, MoreThreads, ThreadText, Motions, Move, StepBack, ContinueBack, Restart, IsAttached, Symbols, Description, Change, Malformed, Unknown}
 use Rattle.ckrt_gdb_playback.specs.declared.description.TheConstants.{DESCRIPTION}
 use Rattle.ckrt_gdb_playback.specs.declared.going.Way.{Way}
 use Rattle.ckrt_gdb_playback.specs.declared.going.Way.TheVariants as way

@@ -2,10 +2,10 @@
 use Rattle.std.specs.Prelude.{◌≡◌, ℕ, if◌then◌else◌, true, List, [], codes}
 use Rattle.ckrt_thread.specs.State as threads
 use Rattle.ckrt_gdb_history.specs.declared.stop.Stops.{Stops}
-use Rattle.ckrt_gdb_packets.specs.declared.request.Choice.{Choice}
-use Rattle.ckrt_gdb_packets.specs.declared.request.Choice.TheVariants.{All, Any, One}
-use Rattle.ckrt_gdb_packets.specs.declared.request.Request.{Request}
-use Rattle.ckrt_gdb_packets.specs.declared.request.Request.TheVariants.{Examine, Choose, Insert, Remove, Detach, Kill}
+use Rattle.ckrt_gdb_forms.specs.declared.request.Choice.{Choice}
+use Rattle.ckrt_gdb_forms.specs.declared.request.Choice.TheVariants.{All, Any, One}
+use Rattle.ckrt_gdb_forms.specs.declared.request.Request.{Request}
+use Rattle.ckrt_gdb_forms.specs.declared.request.Request.TheVariants.{Examine, Choose, Insert, Remove, Detach, Kill}
 use Rattle.ckrt_gdb_playback.specs.declared.marks.Marked.{Marked}
 use Rattle.ckrt_gdb_playback.specs.declared.marks.Marked.TheVariants.{Done, Full}
 use Rattle.ckrt_gdb_playback.specs.declared.view.View.{View}

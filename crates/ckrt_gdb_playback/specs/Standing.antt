@@ -9,8 +9,8 @@ use Rattle.ckrt_thread.specs.Waits.{is_of}
 use Rattle.ckrt_objects.specs.declared.address_map.Entry.{Entry}
 use Rattle.ckrt_objects.specs.AddressMap.{lookup}
 use Rattle.ckrt_mutex.specs.declared.records.Mutex.{Mutex}
-use Rattle.ckrt_state.specs.declared.table.Tables.{Tables}
-use Rattle.ckrt_gdb_packets.specs.Numbers.{number_text}
+use Rattle.ckrt_calls.specs.declared.table.Tables.{Tables}
+use Rattle.ckrt_gdb_forms.specs.Numbers.{number_text}
 
 -- an address, as a debugger reads it
 abbrev pub address_text : ℕ → List ℕ

@@ -3,11 +3,11 @@ use Rattle.std.specs.Prelude.{ℕ, ◌==◌, ◌&&◌, not, nat_le, nat_lt, Bool
 use Rattle.ckrt_rv32i.specs.declared.execution.Cause.{Cause}
 use Rattle.ckrt_rv32i.specs.declared.execution.Cause.TheVariants as fault
 use Rattle.ckrt_thread.specs.State as threads
-use Rattle.ckrt_state.specs.declared.table.Status.{Status}
-use Rattle.ckrt_state.specs.declared.table.Status.TheVariants as status
-use Rattle.ckrt_gdb_packets.specs.declared.reply.Cause.TheVariants as cause
-use Rattle.ckrt_gdb_packets.specs.declared.reply.Cause.{Cause as Reason}
-use Rattle.ckrt_gdb_packets.specs.declared.request.Choice.TheVariants.{Any}
+use Rattle.ckrt_calls.specs.declared.table.Status.{Status}
+use Rattle.ckrt_calls.specs.declared.table.Status.TheVariants as status
+use Rattle.ckrt_gdb_forms.specs.declared.reply.Cause.TheVariants as cause
+use Rattle.ckrt_gdb_forms.specs.declared.reply.Cause.{Cause as Reason}
+use Rattle.ckrt_gdb_forms.specs.declared.request.Choice.TheVariants.{Any}
 use Rattle.ckrt_gdb_history.specs.declared.position.Position.{Position}
 use Rattle.ckrt_gdb_history.specs.declared.stop.Watch.{Watch}
 use Rattle.ckrt_gdb_history.specs.declared.stop.WatchKind.{WatchKind}

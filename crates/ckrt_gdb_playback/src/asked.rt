@@ -5,7 +5,7 @@ ghost use Rattle.ckrt_gdb_playback.specs.Requests.{stepping, way_by, way_of};
 use crate::going::Way;
 use crate::threads::is_shown;
 use crate::view::View;
-use ckrt_gdb_packets::{Choice, Motion, Request};
+use ckrt_gdb_forms::{Choice, Motion, Request};
 use ckrt_thread::{ThreadId, Threads};
 
 /// The thread that is to step: the one that is meant, where it is shown, else that of the last stop.

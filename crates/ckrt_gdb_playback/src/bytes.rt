@@ -1,12 +1,12 @@
 //! Bytes of a reply, one piece behind the other.
 ghost use Rattle.std.specs.Prelude.{◌≡◌, ◌+◌, ◌<◌, ◌≤◌, ◌++◌, IsOk, OnOk, length, decimal};
 ghost use Rattle.arrayvec.specs.ArrayVec.{array_vec_len};
-ghost use Rattle.ckrt_gdb_packets.specs.Numbers.{digit_of, number_text};
+ghost use Rattle.ckrt_gdb_forms.specs.Numbers.{digit_of, number_text};
 ghost use Rattle.ckrt_gdb_playback.specs.Look.{word, words};
 ghost use Rattle.ckrt_gdb_playback.specs.Standing.{address_text};
 
 use arrayvec::ArrayVec;
-use ckrt_gdb_packets::Full;
+use ckrt_gdb_forms::Full;
 
 /// How many bytes a reply tells at most: two digits of a payload are a byte.
 pub const BYTES_LIMIT: usize = 2_048;

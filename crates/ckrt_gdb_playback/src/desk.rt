@@ -23,8 +23,8 @@ use crate::threads::is_listed;
 use crate::told::{ender_or, first_view, next_or, shown, standing_in};
 use crate::view::View;
 use ckrt_events::Event;
+use ckrt_gdb_forms::{Choice, Payload, Reply, Request};
 use ckrt_gdb_history::{AppendFault, History, Position, Stops};
-use ckrt_gdb_packets::{Choice, Payload, Reply, Request};
 use ckrt_schedule::{Schedule, ScheduleEnd};
 use ckrt_thread::{ThreadId, Threads};
 

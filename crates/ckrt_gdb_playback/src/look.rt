@@ -2,8 +2,8 @@
 ghost use Rattle.std.specs.Prelude.{◌≡◌, ◌+◌, ◌≤◌, ◌++◌, ◌⊎◌, [], IsOk, IfSome, OnOk, is_some, length};
 ghost use Rattle.arrayvec.specs.ArrayVec.{array_vec_len};
 ghost use Rattle.ckrt_thread.specs.State.{thread_of};
-ghost use Rattle.ckrt_gdb_packets.specs.Numbers.{hex_text};
-ghost use Rattle.ckrt_gdb_packets.specs.Replies.{reply_text};
+ghost use Rattle.ckrt_gdb_forms.specs.Numbers.{hex_text};
+ghost use Rattle.ckrt_gdb_forms.specs.Replies.{reply_text};
 ghost use Rattle.ckrt_gdb_playback.specs.Look.{absent_text, done_text, fitting, ids_text, memory_text, registers_bytes, registers_of, registers_text};
 ghost use Rattle.ckrt_gdb_playback.specs.Standing.{standing_text};
 ghost use Rattle.ckrt_gdb_playback.specs.Requests.{constant_of, description_text, last_text, look_of, meant, memory_look_of, thread_text, threads_look_of};
@@ -15,11 +15,11 @@ use crate::standing::push_standing;
 use crate::threads::{is_known, is_listed, is_shown, listed_ids};
 use crate::view::View;
 use arrayvec::ArrayVec;
-use ckrt_gdb_packets::{Choice, Full, Payload, Reply, Request, write_reply};
+use ckrt_calls::Tables;
+use ckrt_gdb_forms::{Choice, Full, Payload, Reply, Request, write_reply};
 use ckrt_machine::Machine;
 use ckrt_memory::Memory;
 use ckrt_registers::Regs;
-use ckrt_state::Tables;
 use ckrt_thread::{Thread, ThreadId, Threads};
 
 /// The number of a failure: no such thread, or no such place to stop.

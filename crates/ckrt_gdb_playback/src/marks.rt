@@ -4,8 +4,8 @@ ghost use Rattle.ckrt_gdb_history.specs.Stops.{widths};
 ghost use Rattle.ckrt_gdb_playback.specs.Marks.{AreStops, HasInserted, HasRemoved, by_room, has_breakpoint, has_watch, inserted, is_breakpoint, is_kind, is_watch, takes_breakpoint, takes_watch, watch_of, with_breakpoint, with_watch, without_breakpoint, without_watch};
 
 use arrayvec::ArrayVec;
+use ckrt_gdb_forms::Mark;
 use ckrt_gdb_history::{BREAKPOINT_LIMIT, Breakpoint, Stops, WATCH_LIMIT, Watch, WatchKind};
-use ckrt_gdb_packets::Mark;
 
 type Breakpoints = ArrayVec<Breakpoint, 64>;
 

@@ -6,10 +6,10 @@ ghost use Rattle.ckrt_thread.specs.State.{holds};
 ghost use Rattle.ckrt_gdb_playback.specs.Standing.{hart_from, hart_text, mutex_text, owner_of, owner_text, reason_text, standing_text, until_text, wait_text};
 
 use crate::bytes::{Bytes, push, push_at, push_counted};
-use ckrt_gdb_packets::Full;
+use ckrt_calls::Tables;
+use ckrt_gdb_forms::Full;
 use ckrt_mutex::Mutexes;
 use ckrt_objects::get;
-use ckrt_state::Tables;
 use ckrt_thread::{Reason, ThreadId, Threads, Wait};
 
 /// Who owns the mutex at an address.

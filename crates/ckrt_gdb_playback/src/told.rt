@@ -5,10 +5,10 @@ ghost use Rattle.ckrt_gdb_playback.specs.Told.{cause_of, ender_by, ender_or, exi
 use crate::motion::Found;
 use crate::threads::{is_shown, shown_ids};
 use crate::view::{Stopped, View};
+use ckrt_calls::Status;
+use ckrt_gdb_forms::{Cause, Choice};
 use ckrt_gdb_history::{History, Position, Watch, WatchKind};
-use ckrt_gdb_packets::{Cause, Choice};
 use ckrt_rv32i::Cause as Fault;
-use ckrt_state::Status;
 use ckrt_thread::{ThreadId, Threads};
 
 /// gdb's number of a breakpoint, a watch or a step.

@@ -1,6 +1,6 @@
 //! What a session remembers between packets.
 
-use ckrt_gdb_packets::{Cause, Choice};
+use ckrt_gdb_forms::{Cause, Choice};
 
 /// A stop as gdb was told it.
 #[derive(Clone, Copy)]

@@ -7,8 +7,8 @@ use Rattle.std.specs.Result.{IsErrAnd}
 use Rattle.std.specs.Io.KnownBytes.{Appends, Consumes, Keeps}
 use Rattle.ckrt_disk.specs.Writing.{AppendsPart}
 use Rattle.ckrt_disk.proofs.WriteLemmas.{Appends-append, Appends-nothing}
-use Rattle.ckrt_gdb_packets.specs.Framing.{frame_of, line_after}
-use Rattle.ckrt_gdb_packets.specs.declared.request.Request.{Request}
+use Rattle.ckrt_gdb_forms.specs.Framing.{frame_of, line_after}
+use Rattle.ckrt_gdb_forms.specs.declared.request.Request.{Request}
 use Rattle.ckrt_gdb_stub.specs.declared.fault.DebugFault.{DebugFault}
 use Rattle.ckrt_gdb_stub.specs.declared.fault.DebugFault.TheVariants.{OutOfMemory, Range, Read, Refused, Write}
 use Rattle.ckrt_gdb_stub.specs.declared.line.Line.{Line}

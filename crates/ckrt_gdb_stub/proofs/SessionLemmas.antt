@@ -2,7 +2,7 @@
 use Rattle.std.proofs.Common.{◌≡◌, ◌⊎◌, ◌↔◌, IsTrue, inr, ℕ, Bool, true, false, Option, Some, None, List, refl, sym, ap, subst}
 use Rattle.std.proofs.lemmas.Bool.{false≢true}
 use Rattle.std.specs.Prelude.{IfErr, IfOk, IfSome, IsErrOf, Result, Ok, Err, is_some}
-use Rattle.ckrt_gdb_packets.specs.declared.request.Request.{Request}
+use Rattle.ckrt_gdb_forms.specs.declared.request.Request.{Request}
 use Rattle.ckrt_gdb_playback.specs.declared.going.Way.{Way}
 use Rattle.ckrt_gdb_stub.specs.declared.fault.DebugFault.{DebugFault}
 use Rattle.ckrt_gdb_stub.specs.declared.fault.DebugFault.TheVariants.{OutOfMemory, Refused}

@@ -1,15 +1,15 @@
--- A session with gdb over a line (this project's choice). The frames, and what arrives with a byte, are those of `ckrt_gdb_packets`.
+-- A session with gdb over a line (this project's choice). The frames, and what arrives with a byte, are those of `ckrt_gdb_forms`.
 use Rattle.std.specs.Prelude.{◌≡◌, ◌⊎◌, ℕ, zero, suc, Bool, true, false, if◌then◌else◌, List, [], ◌∷◌, ◌++◌, length, take, drop, codes, Option, Some, None, is_some}
 use Rattle.std.specs.Io.KnownBytes.{Appends, Consumes, IsAtEnd, Keeps}
 use Rattle.ckrt_disk.specs.Writing.{AppendsPart}
-use Rattle.ckrt_gdb_packets.specs.Framing.{Line as Heard, arrival_of, frame_of, line_after}
-use Rattle.ckrt_gdb_packets.specs.Numbers.{hex_text}
-use Rattle.ckrt_gdb_packets.specs.Requests.{request_of}
-use Rattle.ckrt_gdb_packets.specs.declared.frame.Arrival.{Arrival}
-use Rattle.ckrt_gdb_packets.specs.declared.frame.Arrival.TheVariants as arrival
-use Rattle.ckrt_gdb_packets.specs.declared.frame.Stage.TheVariants.{Outside}
-use Rattle.ckrt_gdb_packets.specs.declared.request.Request.{Request}
-use Rattle.ckrt_gdb_packets.specs.declared.request.Request.TheVariants.{Detach, Kill, Monitor, WithoutAcknowledgements}
+use Rattle.ckrt_gdb_forms.specs.Framing.{Line as Heard, arrival_of, frame_of, line_after}
+use Rattle.ckrt_gdb_forms.specs.Numbers.{hex_text}
+use Rattle.ckrt_gdb_forms.specs.Requests.{request_of}
+use Rattle.ckrt_gdb_forms.specs.declared.frame.Arrival.{Arrival}
+use Rattle.ckrt_gdb_forms.specs.declared.frame.Arrival.TheVariants as arrival
+use Rattle.ckrt_gdb_forms.specs.declared.frame.Stage.TheVariants.{Outside}
+use Rattle.ckrt_gdb_forms.specs.declared.request.Request.{Request}
+use Rattle.ckrt_gdb_forms.specs.declared.request.Request.TheVariants.{Detach, Kill, Monitor, WithoutAcknowledgements}
 use Rattle.ckrt_gdb_stub.specs.declared.fault.DebugFault.{DebugFault}
 use Rattle.ckrt_gdb_stub.specs.declared.fault.DebugFault.TheVariants as fault
 use Rattle.ckrt_gdb_stub.specs.declared.line.Line.{Line}

@@ -6,7 +6,7 @@ use Rattle.ckrt_gdb_history.specs.Forks.{forked, with_event}
 use Rattle.ckrt_gdb_history.specs.Extended.{Extended}
 use Rattle.ckrt_gdb_history.specs.declared.forking.AppendFault.{AppendFault}
 use Rattle.ckrt_events.specs.declared.event.Event.{Event}
-use Rattle.ckrt_gdb_packets.specs.declared.request.Request.{Request}
+use Rattle.ckrt_gdb_forms.specs.declared.request.Request.{Request}
 use Rattle.ckrt_gdb_playback.specs.declared.going.Way.{Way}
 use Rattle.ckrt_gdb_playback.specs.declared.limits.Bounds.{Bounds}
 use Rattle.ckrt_gdb_playback.specs.declared.motion.Found.{Found}

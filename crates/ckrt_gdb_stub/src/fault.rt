@@ -1,8 +1,8 @@
 //! Why a session with a debugger ends, or there is none.
 ghost use Rattle.std.specs.Prelude.{◌≡◌};
 
+use ckrt_gdb_forms::Full;
 use ckrt_gdb_history::HistoryFault;
-use ckrt_gdb_packets::Full;
 use std::alloc::AllocError;
 use thiserror::Error;
 

@@ -2,8 +2,8 @@
 ghost use Rattle.std.specs.Prelude.{◌≡◌, ◌++◌, ◌∷◌, [], IfErr, IfOk, MatchOption, OnErr, OnOk};
 ghost use Rattle.std.specs.Io.KnownBytes.{Appends, Consumes, IsAtEnd, Keeps};
 ghost use Rattle.ckrt_disk.specs.Writing.{AppendsPart};
-ghost use Rattle.ckrt_gdb_packets.specs.Framing.{arrival_of, frame_of, line_after};
-ghost use Rattle.ckrt_gdb_packets.specs.Replies.{reply_text};
+ghost use Rattle.ckrt_gdb_forms.specs.Framing.{arrival_of, frame_of, line_after};
+ghost use Rattle.ckrt_gdb_forms.specs.Replies.{reply_text};
 ghost use Rattle.ckrt_gdb_stub.specs.declared.stub.Stub.{Stub};
 ghost use Rattle.ckrt_gdb_playback.specs.Look.{fitting};
 ghost use Rattle.ckrt_gdb_stub.specs.Conversation.{asked_by, asked_of, begun, console_frames, sign_in, sign_of, talk_of};
@@ -11,7 +11,7 @@ ghost use Rattle.ckrt_gdb_stub.specs.Conversation.{asked_by, asked_of, begun, co
 use crate::fault::DebugFault;
 use arrayvec::ArrayVec;
 use ckrt_disk::write_text;
-use ckrt_gdb_packets::{
+use ckrt_gdb_forms::{
     Arrival, FRAME_LIMIT, Payload, Receiver, Reply, Request, parse_request, write_frame,
 };
 use ckrt_gdb_playback::put_reply;

@@ -8,7 +8,7 @@ use crate::fault::DebugFault;
 use crate::line::{Line, next_byte};
 use crate::stub::Stub;
 use arrayvec::ArrayVec;
-use ckrt_gdb_packets::{Reply, Request};
+use ckrt_gdb_forms::{Reply, Request};
 use ckrt_gdb_playback::{View, Way, is_interrupted};
 use std::io::{Read, Write};
 

@@ -11,8 +11,8 @@ ghost use Rattle.ckrt_gdb_stub.specs.Session.{Answers, BeginsAt, HasForked, HasG
 
 use crate::fault::DebugFault;
 use ckrt_events::Event;
+use ckrt_gdb_forms::{Payload, Request};
 use ckrt_gdb_history::{AppendFault, HistoryFault, Position};
-use ckrt_gdb_packets::{Payload, Request};
 use ckrt_gdb_playback::{Desk, Playback, Recorded, Way, tell_state, way_of};
 use ckrt_schedule::ScheduleEnd;
 use std::alloc::Global;

@@ -10,7 +10,7 @@ use Rattle.ckrt_hunt_schedules.specs.declared.plan.Plan.{Plan}
 use Rattle.ckrt_hunt_schedules.specs.Tallies.{Hunted, IsRoomFor, plan_in}
 use Rattle.ckrt_hunt_races.specs.declared.beginning.Beginning.{Beginning}
 use Rattle.ckrt_hunt_races.specs.Races.{Raced, with_run}
-use Rattle.ckrt_hunt_races.specs.RaceRuns.{HasBegun, HasRaces, IsBegun, IsLookedAt, IsPutAside, IsReady, IsSameSize, Sees}
+use Rattle.ckrt_hunt_races.specs.RaceRuns.{HasBegun, HasGoneOn, HasRaces, IsBegun, IsLookedAt, IsPutAside, IsReady, Sees}
 
 -- the room is that for the state of the machine
 pub room_at : (s : State) (b : Beginning) → IsBegun s b → IsRoomFor b.machine.state b.memory b.tables
@@ -51,8 +51,8 @@ ready_again h whole stepped p s w start a b sees = record {
 }
 
 -- a machine that ran from its beginning is given that again
-pub begun_again : (start : State) (was aside : Beginning) (ran : Machine) (new : Beginning) → was.machine.state ≡ start → IsPutAside was.machine.state aside → IsSameSize was.machine.state ran.state
-    → ((s : State) → IsPutAside s (record { machine = ran; memory = aside.memory; tables = aside.tables }) → IsSameSize s ran.state → IsBegun s new) → IsBegun start new
-begun_again start was aside ran new is put size again =
+pub begun_again : (start : State) (was aside : Beginning) (ran : Machine) (new : Beginning) → was.machine.state ≡ start → IsPutAside was.machine.state aside → HasGoneOn was.machine ran
+    → ((m : Machine) → IsPutAside m.state (record { machine = ran; memory = aside.memory; tables = aside.tables }) → HasGoneOn m ran → IsBegun m.state new) → IsBegun start new
+begun_again start was aside ran new is put on again =
     subst (λ (s : State). IsBegun s new) is
-    (again was.machine.state (record { memory = put.memory; tables = put.tables; well_formed = put.well_formed; some = put.some }) size)
+    (again was.machine (record { memory = put.memory; tables = put.tables; well_formed = put.well_formed; some = put.some }) on)

@@ -4,7 +4,8 @@ use Rattle.std.proofs.lemmas.List.{append-nil, append_assoc, length-append, leng
 use Rattle.ckrt_events.specs.declared.event.Event.{Event}
 use Rattle.ckrt_machine.specs.declared.event.Answer.{Answer}
 use Rattle.ckrt_machine.specs.declared.event.Answer.TheVariants.{Placed, Ran, Taken, Closed, Ticked}
-use Rattle.ckrt_machine.specs.Events.{After, IsAccepted, fold, step}
+use Rattle.ckrt_memory.proofs.FollowLemmas.{follows_on}
+use Rattle.ckrt_machine.specs.Events.{After, IsAccepted, Machine, fold, step}
 use Rattle.ckrt_machine.specs.Steps.{State}
 use Rattle.ckrt_machine.proofs.FoldLaws.{accepted_on, state_on}
 use Rattle.ckrt_schedule.specs.declared.next.Next.TheVariants.{Submit, End}
@@ -20,7 +21,7 @@ use Rattle.ckrt_hunt_schedules.specs.Plans.{made_with, nothing_made}
 use Rattle.ckrt_hunt_schedules.specs.Runs.{Point, beginning, next_at, on}
 use Rattle.ckrt_hunt_schedules.specs.Turns.{next, runner_of}
 use Rattle.ckrt_hunt_schedules.proofs.RunLemmas.{behind_on, scheduled_on}
-use Rattle.ckrt_hunt_races.specs.RaceRuns.{HasSeen, Sees}
+use Rattle.ckrt_hunt_races.specs.RaceRuns.{HasGoneOn, HasSeen, Sees}
 use Rattle.ckrt_hunt_races.proofs.SizeLemmas.{same_holders, same_words}
 
 -- the operations of one event more
@@ -55,6 +56,10 @@ turns_within p who Closed m l = omega arith
 
 one_longer : (es : List Event) (e : Event) → length (es ++ e ∷ []) ≡ length es + 1
 one_longer es e = length-append es (e ∷ [])
+
+-- one event more
+pub gone_further : (a b c : Machine) → HasGoneOn a b → HasGoneOn b c → HasGoneOn a c
+gone_further a b c first second = record { harts = second.harts ∙ first.harts; follows = follows_on _ _ _ first.follows second.follows }
 
 module _ (p : Plan) where
   -- a run that begins

@@ -2,8 +2,9 @@
 use Rattle.std.specs.Prelude.{◌≡◌, ◌≤◌, ℕ, zero, suc, ◌+◌, ◌-◌, List, length}
 use Rattle.std.specs.List.{AllByRecursion}
 use Rattle.ckrt_events.specs.declared.event.Event.{Event}
-use Rattle.ckrt_state.specs.WellFormed.{IsWellFormed}
-use Rattle.ckrt_machine.specs.Events.{AllAccepted, fold}
+use Rattle.ckrt_calls.specs.WellFormed.{IsWellFormed}
+use Rattle.ckrt_memory.specs.Marks.{Follows}
+use Rattle.ckrt_machine.specs.Events.{AllAccepted, Machine, fold, memory_in}
 use Rattle.ckrt_machine.specs.Steps.{State}
 use Rattle.ckrt_schedule.specs.declared.next.Next.TheVariants.{End}
 use Rattle.ckrt_schedule.specs.declared.next.ScheduleEnd.{ScheduleEnd}
@@ -100,9 +101,10 @@ pub record HasBegun (whole stepped : State) (w : Watched) : Type 0 where
   pub harts : 1 ≤ whole.tables.threads.hart_count
   pub watched : w ≡ fresh HOLDERS (words_of whole)
 
-pub record IsSameSize (old new : State) : Type 0 where
-  pub harts : new.tables.threads.hart_count ≡ old.tables.threads.hart_count
-  pub bytes : length new.bytes ≡ length old.bytes
+-- a machine went on: it has as many harts, and what changed of its memory is marked
+pub record HasGoneOn (old new : Machine) : Type 0 where
+  pub harts : new.state.tables.threads.hart_count ≡ old.state.tables.threads.hart_count
+  pub follows : Follows (memory_in old) (memory_in new)
 
 -- A MACHINE AT THE BEGINNING, and the room for that beginning
 pub record IsBegun (s : State) (b : Beginning) : Type 0 where

@@ -1,16 +1,15 @@
 //! A machine that begins its program again.
 ghost use Rattle.std.specs.Prelude.{◌≡◌, ◌*◌, ◌-◌, ◌<◌, ◌↔◌, length, IfOk, IsErrOf};
-ghost use Rattle.ckrt_machine.specs.Events.{fresh};
-ghost use Rattle.ckrt_machine.specs.Steps.{State};
+ghost use Rattle.ckrt_machine.specs.Events.{Machine as MachineValue, fresh};
 ghost use Rattle.ckrt_memory.specs.declared.MemoryError.TheVariants.{ImageTooLong};
-ghost use Rattle.ckrt_state.specs.WellFormed.{IsWellFormed};
+ghost use Rattle.ckrt_calls.specs.WellFormed.{IsWellFormed};
 ghost use Rattle.ckrt_hunt_schedules.specs.Tallies.{IsRoomFor};
-ghost use Rattle.ckrt_hunt_races.specs.RaceRuns.{IsBegun, IsPutAside, IsSameSize};
+ghost use Rattle.ckrt_hunt_races.specs.RaceRuns.{HasGoneOn, IsBegun, IsPutAside};
 
+use ckrt_calls::Tables;
 use ckrt_hunt_schedules::Shape;
 use ckrt_machine::Machine;
 use ckrt_memory::{Memory, MemoryError};
-use ckrt_state::Tables;
 use ckrt_stored::{restore_memory, restore_tables};
 use std::alloc::Global;
 
@@ -24,6 +23,7 @@ pub(crate) struct Beginning {
 
 impl Beginning {
     /// The beginning of a program with this image.
+    #[tactic(auto, using(ckrt_hunt_schedules::proofs::CopyLemmas::first_copy))]
     pub(crate) fn new(alloc: Global, image: &[u8], shape: Shape) -> Result<Beginning, MemoryError>
         ensures begun { IfOk result (IsBegun (fresh shape.pages shape.harts image.now)) }
         ensures too_long { IsErrOf result ImageTooLong
@@ -31,6 +31,7 @@ impl Beginning {
     {
         let machine = Machine::new(alloc, shape.pages, shape.harts, image)?;
         let memory = Memory::new(alloc, shape.pages, image)?;
+        memory.known();
         let tables = Tables::new(alloc, shape.pages, shape.harts)?;
         Ok(Beginning {
             machine,
@@ -52,8 +53,8 @@ impl Beginning {
     /// Gives the machine the beginning again that was put aside.
     pub(crate) fn begin_again(&mut self)
         requires { IsWellFormed self.old.tables }
-        ensures { (start : State) → IsPutAside start self.old
-            → IsSameSize start self.old.machine.state → IsBegun start self.new }
+        ensures { (was : MachineValue) → IsPutAside was.state self.old
+            → HasGoneOn was self.old.machine → IsBegun was.state self.new }
     {
         self.machine.exchange(&mut self.memory, &mut self.tables);
     }

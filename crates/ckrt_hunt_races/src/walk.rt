@@ -1,10 +1,10 @@
 //! A run of a seed, made by one machine, and step by step by another one.
-ghost use Rattle.std.specs.Prelude.{◌≡◌, ◌≤◌, ◌+◌, length};
+ghost use Rattle.std.specs.Prelude.{◌≡◌, ◌≤◌, ◌+◌};
 ghost use Rattle.ckrt_machine.specs.Steps.{State};
 ghost use Rattle.ckrt_look_clocks.specs.Detection.{Watched};
 ghost use Rattle.ckrt_schedule.specs.declared.next.Next.TheVariants.{Submit};
 ghost use Rattle.ckrt_hunt_schedules.specs.Turns.{IsFit, next};
-ghost use Rattle.ckrt_hunt_races.specs.RaceRuns.{AreAlike, HasBegun, HasSeen, IsSameSize, Sees};
+ghost use Rattle.ckrt_hunt_races.specs.RaceRuns.{AreAlike, HasBegun, HasGoneOn, HasSeen, Sees};
 
 use ckrt_events::Event;
 use ckrt_hunt_schedules::{Made, Plan, next, runner_of};
@@ -30,7 +30,8 @@ fn watch_next(
         → HasSeen plan.now start made.new whole.new.state detector.new }
     ensures alike { AreAlike made.new whole.new.state stepped.new.state }
     ensures events { made.new.events ≡ made.old.events + 1 }
-    ensures size { IsSameSize whole.old.state whole.new.state }
+    ensures whole { HasGoneOn whole.old whole.new }
+    ensures stepped { HasGoneOn stepped.old stepped.new }
 {
     watch_event(stepped, u64::from(made.events), event, detector);
     let who = runner_of(whole.tables(), event);
@@ -48,8 +49,8 @@ pub(crate) fn watch_run(
 )
     requires { HasBegun whole.old.state stepped.old.state detector.old }
     ensures seen { Sees plan.now whole.old.state detector.new }
-    ensures whole { IsSameSize whole.old.state whole.new.state }
-    ensures stepped { IsSameSize whole.old.state stepped.new.state }
+    ensures whole { HasGoneOn whole.old whole.new }
+    ensures stepped { HasGoneOn stepped.old stepped.new }
 {
     let mut made = Made::nothing();
     'events: loop {

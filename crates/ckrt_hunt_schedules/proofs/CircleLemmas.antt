@@ -3,7 +3,7 @@ use Rattle.std.proofs.Common.{◌≡◌, ◌++◌, ℕ, zero, suc, ◌==◌, ◌
 use Rattle.std.proofs.lemmas.Bool.Decides.{nat_tests}
 use Rattle.std.specs.List.{find}
 use Rattle.ckrt_thread.specs.Waits.{is_of}
-use Rattle.ckrt_state.specs.declared.table.Tables.{Tables}
+use Rattle.ckrt_calls.specs.declared.table.Tables.{Tables}
 use Rattle.ckrt_hunt_schedules.specs.declared.outcome.Waiting.{Waiting}
 use Rattle.ckrt_hunt_schedules.specs.Outcomes.{blocker_of, circled_among, circled_by, is_in_circle, is_reached, waiting_by}
 

@@ -7,6 +7,7 @@ mod OneLemmas
 pub mod SameLemmas
 pub mod KeepLemmas
 pub mod AppendLemmas
+pub mod CopyLemmas
 pub mod LotLemmas
 pub mod DiskLemmas
 mod NumberLemmas

@@ -1,8 +1,8 @@
 -- What seeds came to, counted (this project's choice): each outcome once, with how often it came, and the first seed that came to it. Each kind of
 -- outcomes has rows of its own.
 use Rattle.std.specs.Prelude.{◌≡◌, ◌≢◌, ◌≤◌, ◌<◌, ◌⊎◌, ℕ, zero, suc, ◌+◌, ◌-◌, ◌&&◌, Bool, nat_le, min, if◌then◌else◌, Option, Some, None, List, [], ◌∷◌, ◌++◌, length, slice_get, slice_set, replicate, take, vec_len}
-use Rattle.ckrt_memory.specs.Marks.{Memory}
-use Rattle.ckrt_state.specs.declared.table.Tables.{Tables}
+use Rattle.ckrt_memory.specs.Marks.{IsCopyButMarked, Memory}
+use Rattle.ckrt_calls.specs.declared.table.Tables.{Tables}
 use Rattle.ckrt_machine.specs.Events.{fresh}
 use Rattle.ckrt_machine.specs.Steps.{State}
 use Rattle.ckrt_hunt_schedules.specs.declared.plan.Input.{Input}
@@ -162,9 +162,10 @@ abbrev pub plan_in : Hunted → (seed : ℕ) → Plan
 plan_in h seed =
     record (plan_of h.limit seed) { input = h.input; ignores_output = h.ignores_output }
 
--- a memory and tables have the room for a state, which has a hart at least
+-- a memory and tables have the room for a state, which has a hart at least, and the memory is a copy of the state's but for marked pages
 pub record IsRoomFor (s : State) (memory : Memory) (tables : Tables) : Type 0 where
   pub size : length memory.bytes ≡ length s.bytes
+  pub copy : IsCopyButMarked s.bytes memory
   pub harts : tables.threads.hart_count ≡ s.tables.threads.hart_count
   pub some : 1 ≤ s.tables.threads.hart_count
 

@@ -10,9 +10,9 @@ use crate::seeds::Seeds;
 use crate::shape::Shape;
 use crate::tally::Tally;
 use crate::turns::Turns;
+use ckrt_calls::Tables;
 use ckrt_machine::Machine;
 use ckrt_memory::{Memory, MemoryError};
-use ckrt_state::Tables;
 use ckrt_stored::{restore_memory, restore_tables};
 use std::alloc::Global;
 use std::marker::Model;
@@ -57,6 +57,7 @@ impl<'i> Hunt<'i> {
     ///
     /// `ImageTooLong` where the image has more bytes than the pages from page 1 on, and else `OutOfMemory` where the allocator
     /// refuses the room.
+    #[tactic(auto, using(crate::proofs::CopyLemmas::first_copy))]
     pub fn new(
         alloc: Global,
         image: &[u8],
@@ -69,6 +70,7 @@ impl<'i> Hunt<'i> {
     {
         let machine = Machine::new(alloc, shape.pages, shape.harts, image)?;
         let memory = Memory::new(alloc, shape.pages, image)?;
+        memory.known();
         let tables = Tables::new(alloc, shape.pages, shape.harts)?;
         Ok(Hunt {
             limit: shape.limit,

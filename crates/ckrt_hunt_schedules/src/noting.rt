@@ -1,5 +1,7 @@
 //! Which turns a run has.
-ghost use Rattle.std.specs.Prelude.{◌≡◌, ◌≤◌, ◌<◌, ◌+◌, length};
+ghost use Rattle.std.specs.Prelude.{◌≡◌, ◌≤◌, ◌<◌, ◌+◌};
+ghost use Rattle.ckrt_memory.specs.Marks.{Follows};
+ghost use Rattle.ckrt_machine.specs.Events.{memory_in};
 ghost use Rattle.ckrt_schedule.specs.declared.next.Next.TheVariants.{Submit};
 ghost use Rattle.ckrt_hunt_schedules.specs.Given.{run_made, turn_made};
 ghost use Rattle.ckrt_hunt_schedules.specs.Turns.{IsFit, next};
@@ -52,7 +54,7 @@ fn note_event(
     ensures turns { made.new.turns ≤ made.new.events }
     ensures harts { machine.new.state.tables.threads.hart_count
         ≡ machine.old.state.tables.threads.hart_count }
-    ensures size { length machine.new.state.bytes ≡ length machine.old.state.bytes }
+    ensures follows { Follows (memory_in machine.old) (memory_in machine.new) }
 {
     let who = runner_of(machine.tables(), event);
     let answer = machine.step(event);
@@ -65,11 +67,12 @@ fn note_event(
 
 /// Runs a program by a plan, from the state that the machine is in, and notes its turns: a proposal of turns to be given. False where
 /// there is no room for all of them.
+#[tactic(auto, using(ckrt_memory::proofs::FollowLemmas::follows_on))]
 pub(crate) fn note_turns(machine: &mut Machine, plan: &Plan<'_>, turns: &mut Turns) -> bool
     requires { 1 ≤ machine.old.state.tables.threads.hart_count }
     ensures harts { machine.new.state.tables.threads.hart_count
         ≡ machine.old.state.tables.threads.hart_count }
-    ensures size { length machine.new.state.bytes ≡ length machine.old.state.bytes }
+    ensures follows { Follows (memory_in machine.old) (memory_in machine.new) }
 {
     let mut made = Made::nothing();
     turns.clear();

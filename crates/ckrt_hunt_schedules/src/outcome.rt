@@ -5,11 +5,11 @@ ghost use Rattle.ckrt_thread.specs.Waits.{is_of};
 ghost use Rattle.ckrt_hunt_schedules.specs.Outcomes.{awaited_by, awaited_thread, blocker_by, blocker_of, by_status, circled_among, circled_by, is_in_circle, no_end, outcome_of, owner_of, waiting_among, waiting_by};
 
 use arrayvec::ArrayVec;
+use ckrt_calls::{Status, Tables};
 use ckrt_mutex::Mutexes;
 use ckrt_objects::get;
 use ckrt_rv32i::Cause;
 use ckrt_schedule::ScheduleEnd;
-use ckrt_state::{Status, Tables};
 use ckrt_thread::{MAX_THREADS, Reason, ThreadId, Wait};
 
 /// What a thread waits for.

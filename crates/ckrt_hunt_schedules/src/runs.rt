@@ -1,6 +1,8 @@
 //! A run of a seed.
-ghost use Rattle.std.specs.Prelude.{◌≡◌, ◌≤◌, ◌<◌, ◌+◌, ℕ, List, length};
+ghost use Rattle.std.specs.Prelude.{◌≡◌, ◌≤◌, ◌<◌, ◌+◌, ℕ, List};
 ghost use Rattle.sha2.specs.Hashers.{Holds256};
+ghost use Rattle.ckrt_memory.specs.Marks.{Follows};
+ghost use Rattle.ckrt_machine.specs.Events.{memory_in};
 ghost use Rattle.ckrt_machine.specs.Steps.{State};
 ghost use Rattle.ckrt_schedule.specs.declared.next.Next.TheVariants.{Submit};
 ghost use Rattle.ckrt_hunt_schedules.specs.LastLines.{last_line};
@@ -50,7 +52,7 @@ fn go_on(machine: &mut Machine, plan: &Plan<'_>, made: &mut Made, heard: &mut He
     ensures turns { made.new.turns ≤ made.new.events }
     ensures harts { machine.new.state.tables.threads.hart_count
         ≡ machine.old.state.tables.threads.hart_count }
-    ensures size { length machine.new.state.bytes ≡ length machine.old.state.bytes }
+    ensures follows { Follows (memory_in machine.old) (memory_in machine.new) }
 {
     let who = runner_of(machine.tables(), event);
     let answer = machine.step(event);
@@ -105,7 +107,7 @@ pub fn run(machine: &mut Machine, plan: &Plan<'_>) -> Finished
     ensures ends { EndsWith plan.now machine.old.state result }
     ensures harts { machine.new.state.tables.threads.hart_count
         ≡ machine.old.state.tables.threads.hart_count }
-    ensures size { length machine.new.state.bytes ≡ length machine.old.state.bytes }
+    ensures follows { Follows (memory_in machine.old) (memory_in machine.new) }
 {
     let mut made = Made::nothing();
     let mut heard = Heard::nothing();

@@ -15,10 +15,10 @@ use crate::given::{Turn, given_turn};
 use crate::lots::{CLOCK, HART, LENGTH, SCALE, TurnLots, shortest_of};
 use crate::made::Made;
 use crate::plan::Plan;
+use ckrt_calls::{Status, Tables};
 use ckrt_events::Event;
 use ckrt_machine::Machine;
 use ckrt_schedule::{Next, ScheduleEnd, idle, next_input, run_by};
-use ckrt_state::{Status, Tables};
 use ckrt_thread::{Hart, MAX_HARTS, MAX_THREADS, Thread, ThreadId, Threads};
 
 /// A thread with its rank at a turn.

@@ -17,8 +17,8 @@ use Rattle.ckrt_tables.specs.declared.reading_objects.Reader.{Reader}
 use Rattle.ckrt_thread.specs.Keys.{KeyTable}
 use Rattle.ckrt_tables.specs.declared.reading_keys.KeyEntry.{KeyEntry}
 use Rattle.ckrt_tables.specs.Records.{id_or_0, readers_of, words_from, value_words, specific_of}
-use Rattle.ckrt_state.specs.declared.table.Status.{Status}
-use Rattle.ckrt_state.specs.declared.table.Tables.{Tables}
+use Rattle.ckrt_calls.specs.declared.table.Status.{Status}
+use Rattle.ckrt_calls.specs.declared.table.Tables.{Tables}
 use Rattle.ckrt_machine.specs.Steps.{State}
 use Rattle.hex.specs.Hex.{encode_lower}
 use Rattle.ckrt_stored.specs.declared.note.ProgramNote.{ProgramNote}

@@ -8,9 +8,9 @@ use Rattle.ckrt_thread.specs.declared.records.Wait.{Wait}
 use Rattle.ckrt_thread.specs.Contents.{ThreadRow, thread_rows}
 use Rattle.ckrt_thread.specs.State as threads
 use Rattle.ckrt_thread.specs.Waits.{is_of}
-use Rattle.ckrt_state.specs.declared.table.Status.{Status}
-use Rattle.ckrt_state.specs.declared.table.Status.TheVariants as status
-use Rattle.ckrt_state.specs.declared.table.Tables.{Tables}
+use Rattle.ckrt_calls.specs.declared.table.Status.{Status}
+use Rattle.ckrt_calls.specs.declared.table.Status.TheVariants as status
+use Rattle.ckrt_calls.specs.declared.table.Tables.{Tables}
 use Rattle.ckrt_inspect.specs.declared.metrics.Metric.{Metric}
 use Rattle.ckrt_inspect.specs.declared.metrics.Metric.TheVariants.{Events, Acknowledged, Steps, Ticks, Output, Input, Generation, Room, Drive, Threads}
 use Rattle.ckrt_inspect.specs.declared.metrics.Readings.{Readings}

@@ -12,7 +12,7 @@ use Rattle.ckrt_thread.specs.declared.records.Thread.{Thread}
 use Rattle.ckrt_thread.specs.declared.records.Thread.TheVariants as thread
 use Rattle.ckrt_thread.specs.declared.records.Wait.{Wait}
 use Rattle.ckrt_mutex.specs.declared.records.Kind.TheVariants as kind
-use Rattle.ckrt_state.specs.declared.table.Status.TheVariants as status
+use Rattle.ckrt_calls.specs.declared.table.Status.TheVariants as status
 use Rattle.ckrt_machine.specs.Steps.{State}
 use Rattle.ckrt_inspect.specs.Listing.{barrier_line, hart_line, keys_lines, listing_by, mutex_line, rwlock_line, value_line, status_line, thread_lines, wait_line}
 use Rattle.ckrt_inspect.specs.Code.{code_line, word_line}

@@ -6,7 +6,7 @@ ghost use Rattle.ckrt_thread.specs.State.{thread_of};
 ghost use Rattle.ckrt_inspect.specs.Metrics.{all_metrics, disk_lines, does_text, doing_of, doing_text, drive_line, drive_lines, event_lines, head_lines, help_line, help_of, kind_of, metric_lines, name_of, optional_lines, program_lines, stands_text, thread_label, thread_line, threads_lines, type_line};
 
 use crate::texts::{push, push_number, push_reason, push_status};
-use ckrt_state::{Status, Tables};
+use ckrt_calls::{Status, Tables};
 use ckrt_thread::{Thread, ThreadId, Threads, Wait};
 use std::alloc::AllocError;
 

@@ -7,10 +7,10 @@ ghost use Rattle.ckrt_inspect.specs.Listing.{barrier_line, holders_text, mutex_l
 use crate::rows::{Row, push_rows};
 use crate::texts::{kind_text, push, push_hex, push_number};
 use ckrt_barrier::Barrier;
+use ckrt_calls::Tables;
 use ckrt_mutex::Mutex;
 use ckrt_objects::Entry;
 use ckrt_rwlock::RwLock;
-use ckrt_state::Tables;
 use ckrt_thread::{MAX_THREADS, ThreadId};
 use std::alloc::AllocError;
 

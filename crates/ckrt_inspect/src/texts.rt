@@ -1,12 +1,12 @@
 //! Words and numbers.
 ghost use Rattle.std.specs.Prelude.{◌≡◌, ◌++◌, length, decimal, OnOk};
 ghost use Rattle.ckrt_thread.specs.declared.records.Reason.TheVariants as reason;
-ghost use Rattle.ckrt_state.specs.declared.table.Status.TheVariants as status;
+ghost use Rattle.ckrt_calls.specs.declared.table.Status.TheVariants as status;
 ghost use Rattle.ckrt_inspect.specs.Texts.{flag_text, hex_text, kind_text, reason_text, retake_text, status_text};
 
+use ckrt_calls::Status;
 use ckrt_mutex::Kind;
 use ckrt_rv32i::Cause;
-use ckrt_state::Status;
 use ckrt_thread::{Reason, RetakeResult, ThreadId};
 use std::alloc::AllocError;
 

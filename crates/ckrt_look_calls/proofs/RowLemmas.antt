@@ -1,13 +1,13 @@
 -- Quiet steps in a row: where they lead, and their lines, which are none but that of a fault by the last.
 use Rattle.std.proofs.Common.{◌≡◌, ◌∙◌, ◌≤◌, ◌<◌, ◌+◌, ℕ, zero, suc, true, if◌then◌else◌, List, [], ◌++◌, None, refl, sym, ap, arith}
-use Rattle.ckrt_state.specs.declared.table.Status.{Status}
-use Rattle.ckrt_state.specs.declared.table.Status.TheVariants as status
+use Rattle.ckrt_calls.specs.declared.table.Status.{Status}
+use Rattle.ckrt_calls.specs.declared.table.Status.TheVariants as status
 use Rattle.ckrt_machine.specs.Runs.{after_steps, stop_after, stop_of, with_byte}
 use Rattle.ckrt_machine.specs.Steps.{State, hart_of, hart_step}
 use Rattle.ckrt_look_calls.specs.declared.lines.Place.{Place}
 use Rattle.ckrt_look_calls.specs.Events.{at, lines_after, state_behind}
 use Rattle.ckrt_look_calls.specs.Lines.{caller_of, fault_line, lines_between, step_lines, waiting_of}
-use Rattle.ckrt_look_steps.specs.Quiet.{is_quiet, is_quiet_after}
+use Rattle.ckrt_look_recording.specs.Quiet.{is_quiet, is_quiet_after}
 use Rattle.ckrt_look_calls.proofs.RunLemmas.{lines_next, state_next}
 
 abbrev pub GoOnQuietly : (made h : ℕ) → State → List ℕ → Type 0

@@ -12,15 +12,15 @@ use Rattle.ckrt_thread.specs.declared.records.Reason.TheVariants as reason
 use Rattle.ckrt_thread.specs.declared.records.Thread.{Thread}
 use Rattle.ckrt_thread.specs.declared.records.Thread.TheVariants as thread
 use Rattle.ckrt_thread.specs.declared.records.Wait.{Wait}
-use Rattle.ckrt_state.specs.declared.table.Status.{Status}
-use Rattle.ckrt_state.specs.declared.table.Status.TheVariants as status
-use Rattle.ckrt_state.specs.declared.table.Tables.{Tables}
+use Rattle.ckrt_calls.specs.declared.table.Status.{Status}
+use Rattle.ckrt_calls.specs.declared.table.Status.TheVariants as status
+use Rattle.ckrt_calls.specs.declared.table.Tables.{Tables}
 use Rattle.ckrt_calls.specs.Table.{call_of}
 use Rattle.ckrt_events.specs.declared.event.Event.TheVariants.{Run}
 use Rattle.ckrt_machine.specs.Events.{Machine, refusal_of}
 use Rattle.ckrt_machine.specs.Runs.{is_running, stop_of}
 use Rattle.ckrt_machine.specs.Steps.{State, hart_of, hart_step}
-use Rattle.ckrt_look_steps.specs.Quiet.{is_ecall_at, is_quiet}
+use Rattle.ckrt_look_recording.specs.Quiet.{is_ecall_at, is_quiet}
 use Rattle.ckrt_inspect.specs.Texts.{reason_text, status_text}
 use Rattle.ckrt_inspect.specs.Listing.{until_text}
 use Rattle.ckrt_look_calls.specs.declared.lines.Caller.{Caller}

@@ -4,7 +4,8 @@ ghost use Rattle.std.specs.List.{flat_map};
 ghost use Rattle.std.specs.Io.KnownBytes.{Appends};
 ghost use Rattle.ckrt_events.specs.Bytes.{IsInRange};
 ghost use Rattle.ckrt_events.specs.declared.event.Event.TheVariants.{Place as Placing, Run};
-ghost use Rattle.ckrt_machine.specs.Events.{step, refusal_of};
+ghost use Rattle.ckrt_memory.specs.Marks.{Follows};
+ghost use Rattle.ckrt_machine.specs.Events.{memory_in, step, refusal_of};
 ghost use Rattle.ckrt_machine.specs.Runs.{run_on, stop_of, with_byte};
 ghost use Rattle.ckrt_machine.specs.Steps.{hart_step};
 ghost use Rattle.ckrt_look_calls.specs.Events.{GoesOnTold, byte_text, event_lines, event_text, input_text, lines_after, other_lines, run_lines, state_behind};
@@ -13,10 +14,10 @@ ghost use Rattle.ckrt_look_calls.specs.Lines.{MayStep, lines_of_step, put_before
 use crate::lines::{Place, look, waits_now, write_between, write_fault, write_overs, write_place};
 use crate::texts::{write_byte, write_counted};
 use arrayvec::ArrayVec;
+use ckrt_calls::Status;
 use ckrt_events::Event;
-use ckrt_look_steps::{go_quietly, is_quiet};
+use ckrt_look_recording::{go_quietly, is_quiet};
 use ckrt_machine::{Machine, RUN_OUTPUT};
-use ckrt_state::Status;
 use std::io::{Result, Write};
 
 /// A step of a run of the thread on a hart: the first, or a further one.
@@ -25,6 +26,7 @@ pub fn advance(machine: &mut Machine, hart: u8, is_first: bool)
     ensures state { machine.new.state ≡ (hart_step hart machine.old.state).state }
     ensures output { machine.new.output
         ≡ with_byte (hart_step hart machine.old.state).put (put_before is_first machine.old) }
+    ensures follows { Follows (memory_in machine.old) (memory_in machine.new) }
 {
     if is_first {
         machine.step(&Event::Run(hart, 1));

@@ -2,7 +2,7 @@
 ghost use Rattle.std.specs.Prelude.{◌≡◌, ◌++◌, ◌%◌, Some, OnOk};
 ghost use Rattle.std.specs.List.{find, flat_map};
 ghost use Rattle.ckrt_thread.specs.Waits.{is_of};
-ghost use Rattle.ckrt_state.specs.declared.table.Status.TheVariants.{Faulted};
+ghost use Rattle.ckrt_calls.specs.declared.table.Status.TheVariants.{Faulted};
 ghost use Rattle.ckrt_inspect.specs.Texts.{status_text};
 ghost use Rattle.std.specs.Io.KnownBytes.{Appends};
 ghost use Rattle.ckrt_thread.specs.State.{thread_of};
@@ -14,13 +14,12 @@ use crate::texts::{
     write_answers, write_call, write_counted, write_hex, write_number, write_reason, write_until,
 };
 use arrayvec::ArrayVec;
-use ckrt_calls::Call;
-use ckrt_look_steps::is_ecall_at;
+use ckrt_calls::{Call, Status, Tables};
+use ckrt_look_recording::is_ecall_at;
 use ckrt_machine::Machine;
 use ckrt_memory::Memory;
 use ckrt_registers::Regs;
 use ckrt_rv32i::Cause;
-use ckrt_state::{Status, Tables};
 use ckrt_thread::{Live, MAX_THREADS, Reason, Thread, ThreadId, Threads, Wait};
 use std::io::{Result, Write};
 

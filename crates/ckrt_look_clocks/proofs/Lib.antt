@@ -6,3 +6,4 @@ pub mod RaceLemmas
 pub mod KeptLemmas
 pub mod ChainLemmas
 pub mod BehindLemmas
+mod PartLemmas

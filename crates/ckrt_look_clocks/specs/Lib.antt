@@ -1,3 +1,4 @@
 pub mod Histories
 pub mod Detection
+pub mod Parts
 pub mod Laws

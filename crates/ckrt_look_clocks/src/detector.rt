@@ -1,11 +1,13 @@
 //! Operation by operation.
-ghost use Rattle.std.specs.Prelude.{◌≡◌, ◌≤◌, ◌+◌, length, replicate, IfOk};
-ghost use Rattle.ckrt_look_clocks.specs.Detection.{compared, compared_all, compared_stores, found_in, few_words, no_accesses, no_clock, renewed};
+ghost use Rattle.std.specs.Prelude.{◌≡◌, ◌≤◌, ◌<◌, ◌+◌, length, replicate, slice_set, IfOk};
+ghost use Rattle.ckrt_look_clocks.specs.Detection.{compared, compared_all, compared_stores, found_in, few_words, no_accesses, no_clock, given_with, renewed};
+ghost use Rattle.ckrt_look_clocks.specs.Parts.{AreTouched};
 
 use crate::clock::{Clock, knows, no_clock, pass};
 use crate::found::Findings;
 use crate::operation::{Access, Block, Operation, conflict};
 use crate::pair::Pair;
+use crate::parts::{clear_all, touch, untouched};
 use crate::shadow::{Cell, given_with, is_repeated, keep, no_accesses};
 use std::alloc::{AllocError, Global};
 use std::marker::Model;
@@ -15,11 +17,14 @@ use std::marker::Model;
 pub struct Detector {
     clocks: Vec<Clock>,
     shadow: Vec<Cell>,
+    /// By part of the shadow: whether something was done to one of its words.
+    touched: Vec<bool>,
     found: Findings,
 }
 
 impl Model for Detector {
     ghost use Rattle.ckrt_look_clocks.specs.Detection.{Watched, found_in};
+    ghost use Rattle.ckrt_look_clocks.specs.Parts.{AreTouched};
 
     ghost Value = { Watched };
 
@@ -28,6 +33,8 @@ impl Model for Detector {
       shadow = d.shadow.items;
       found = found_in d.found;
     } };
+
+    ghost invariant = { λ d. AreTouched d.touched.items d.shadow.items };
 }
 
 /// Holders that have seen nothing.
@@ -61,13 +68,6 @@ fn clear_clocks(clocks: &mut Vec<Clock>)
     ensures { clocks.new.items ≡ replicate (length clocks.old.items) no_clock }
 {
     clocks.as_mut_slice().fill(no_clock());
-}
-
-/// Nothing accessed words any more.
-fn clear_shadow(shadow: &mut Vec<Cell>)
-    ensures { shadow.new.items ≡ replicate (length shadow.old.items) no_accesses }
-{
-    shadow.as_mut_slice().fill(no_accesses());
 }
 
 /// An access is compared with one that was kept.
@@ -131,14 +131,29 @@ fn few_words(shadow: &[Cell], block: &Block) -> usize
     if count < left { count } else { left }
 }
 
+/// Nothing accessed a word of memory any more that is given anew.
+#[tactic(auto, using(crate::proofs::PartLemmas::touched_at))]
+fn renew_word(shadow: &mut Vec<Cell>, touched: &mut Vec<bool>, word: usize, block: &Block)
+    requires word { word < length shadow.old.items }
+    requires touched { AreTouched touched.old.items shadow.old.items }
+    ensures shadow { shadow.new.items
+        ≡ slice_set shadow.old.items word (given_with block.now) }
+    ensures touched { AreTouched touched.new.items shadow.new.items }
+{
+    shadow[word] = given_with(block);
+    touch(touched, word);
+}
+
 /// Nothing accessed the first so many words of memory any more that is given anew.
-fn renew(shadow: &mut [Cell], block: &Block, count: usize)
-    requires { block.now.first + count ≤ length shadow.old }
-    ensures { shadow.new ≡ renewed count block.now shadow.old }
+fn renew(shadow: &mut Vec<Cell>, touched: &mut Vec<bool>, block: &Block, count: usize)
+    requires inside { block.now.first + count ≤ length shadow.old.items }
+    requires touched { AreTouched touched.old.items shadow.old.items }
+    ensures shadow { shadow.new.items ≡ renewed count block.now shadow.old.items }
+    ensures touched { AreTouched touched.new.items shadow.new.items }
 {
     let first = block.first as usize;
     for done in 0..count {
-        shadow[first + done] = given_with(block);
+        renew_word(shadow, touched, first + done, block);
     }
 }
 
@@ -154,16 +169,18 @@ impl Detector {
         Ok(Detector {
             clocks: fresh_clocks(alloc, holders)?,
             shadow: fresh_shadow(alloc, words)?,
+            touched: untouched(alloc, words)?,
             found: Findings::new(alloc)?,
         })
     }
 
-    /// Nothing was done any more, as when it was new. It takes no memory.
+    /// Nothing was done any more, as when it was new. It takes no memory, and looks at the words of those parts alone to which something
+    /// was done.
     pub fn clear(&mut self)
         ensures { self.new ≡ fresh (length self.old.clocks) (length self.old.shadow) }
     {
         clear_clocks(&mut self.clocks);
-        clear_shadow(&mut self.shadow);
+        clear_all(&mut self.shadow, &mut self.touched);
         self.found.clear();
     }
 
@@ -179,6 +196,7 @@ impl Detector {
         let clocks = self.clocks.as_slice();
         compare_all(clocks, access, &self.shadow[word], &mut self.found);
         keep(&mut self.shadow[word], access);
+        touch(&mut self.touched, word);
     }
 
     /// Memory is given anew: what was done to it before is compared with nothing. Words that the memory doesn't have are passed over.
@@ -187,7 +205,7 @@ impl Detector {
     {
         let few = few_words(self.shadow.as_slice(), block);
         if few > 0 {
-            renew(self.shadow.as_mut_slice(), block, few);
+            renew(&mut self.shadow, &mut self.touched, block, few);
         }
     }
 

@@ -10,6 +10,7 @@ mod found;
 mod laws;
 mod operation;
 mod pair;
+mod parts;
 mod shadow;
 
 pub use clock::Clock;

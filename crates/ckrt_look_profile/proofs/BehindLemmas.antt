@@ -1,8 +1,8 @@
 -- Notes one behind another, and pieces of lists.
 use Rattle.std.proofs.Common.{◌≡◌, ℕ, ◌+◌, List, [], ◌∷◌, ◌++◌, refl, ap, ◌∙◌, add-one}
 use Rattle.ckrt_machine.specs.Steps.{State}
-use Rattle.ckrt_look_counts.specs.declared.counts.Note.{Note}
-use Rattle.ckrt_look_counts.specs.Counts.{Counts, behind, behind_all}
+use Rattle.ckrt_look_profile.specs.declared.counts.Note.{Note}
+use Rattle.ckrt_look_profile.specs.Counts.{Counts, behind, behind_all}
 use Rattle.ckrt_look_profile.specs.Steps.{met, met_up_to}
 
 -- two pieces

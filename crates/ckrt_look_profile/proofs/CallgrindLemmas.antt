@@ -1,7 +1,7 @@
 -- The rows from a number on.
 use Rattle.std.proofs.Common.{◌≡◌, ◌≢◌, ◌<◌, ◌≤◌, ℕ, zero, suc, ◌+◌, ◌==◌, Bool, true, false, if◌then◌else◌, Option, subst, List, [], ◌∷◌, length, drop, get_or, slice_get, Some, refl, sym, ap, ◌∙◌, arith, add-one}
 use Rattle.std.proofs.lemmas.Option.{slice_get-get_or}
-use Rattle.ckrt_look_counts.specs.declared.row.Row.{Row}
+use Rattle.ckrt_look_profile.specs.declared.row.Row.{Row}
 use Rattle.std.proofs.lemmas.Bool.Decides.{nat_tests}
 use Rattle.std.specs.Io.KnownBytes.{Appends}
 use Rattle.ckrt_look_calls.proofs.AppendLemmas.{Completes, completes_all, completes_more}

@@ -1,8 +1,8 @@
 -- The frames of a row, behind those that it stands on.
 use Rattle.std.proofs.Common.{◌≡◌, ◌++◌, ℕ, suc, List, slice_get, Option, Some, sym, ap, ◌∙◌, subst}
 use Rattle.std.specs.Io.KnownBytes.{Appends}
-use Rattle.ckrt_look_counts.specs.declared.row.Base.TheVariants as base
-use Rattle.ckrt_look_counts.specs.declared.row.Row.{Row}
+use Rattle.ckrt_look_profile.specs.declared.row.Base.TheVariants as base
+use Rattle.ckrt_look_profile.specs.declared.row.Row.{Row}
 use Rattle.ckrt_look_calls.proofs.AppendLemmas.{appends_both}
 use Rattle.ckrt_look_profile.specs.Texts.{base_text, entry_text, frame_text}
 

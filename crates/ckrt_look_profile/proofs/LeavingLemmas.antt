@@ -15,15 +15,15 @@ use Rattle.ckrt_machine.specs.Events.{Machine}
 use Rattle.ckrt_machine.specs.Runs.{after_steps, stop_after, with_byte}
 use Rattle.ckrt_machine.specs.RunsTo.{meets_after, meets_for, meets_on, meets_with}
 use Rattle.ckrt_machine.specs.Steps.{State, hart_of, hart_step}
-use Rattle.ckrt_look_counts.specs.Counts.{Counts, behind, behind_all, onward}
-use Rattle.ckrt_look_counts.specs.declared.counts.Step.{Step}
-use Rattle.ckrt_look_counts.specs.Turns.{jump_turn, register_turn, turn_of}
-use Rattle.ckrt_look_counts.specs.declared.counts.Note.TheVariants as note
-use Rattle.ckrt_look_counts.specs.declared.turn.Turn.{Turn}
-use Rattle.ckrt_look_counts.specs.declared.turn.Turn.TheVariants as turn
+use Rattle.ckrt_look_profile.specs.Counts.{Counts, behind, behind_all, onward}
+use Rattle.ckrt_look_profile.specs.declared.counts.Step.{Step}
+use Rattle.ckrt_look_profile.specs.Turns.{jump_turn, register_turn, turn_of}
+use Rattle.ckrt_look_profile.specs.declared.counts.Note.TheVariants as note
+use Rattle.ckrt_look_profile.specs.declared.turn.Turn.{Turn}
+use Rattle.ckrt_look_profile.specs.declared.turn.Turn.TheVariants as turn
 use Rattle.ckrt_look_calls.specs.Events.{state_behind}
-use Rattle.ckrt_look_steps.specs.Quiet.{GoesQuietlyTo, IsCalm, IsMetAtCalls, calls_next, is_at_gate, is_ecall_at, is_plain_of, is_quiet, is_quiet_after}
-use Rattle.ckrt_look_steps.proofs.QuietLemmas.{calm_behind, meets_is, no_gate}
+use Rattle.ckrt_look_recording.specs.Quiet.{GoesQuietlyTo, IsCalm, IsMetAtCalls, calls_next, is_at_gate, is_ecall_at, is_plain_of, is_quiet, is_quiet_after}
+use Rattle.ckrt_look_recording.proofs.QuietLemmas.{calm_behind, meets_is, no_gate}
 use Rattle.ckrt_look_calls.proofs.RowLemmas.{quiet_state}
 use Rattle.ckrt_look_profile.specs.Steps.{looks_at, of_rest, of_step, step_by, step_with, word_turn}
 use Rattle.ckrt_look_profile.specs.Leaving.{addresses, is_onward, leaves, leaves_at, leaves_next}

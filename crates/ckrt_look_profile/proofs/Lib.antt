@@ -1,3 +1,6 @@
+pub mod ListLemmas
+pub mod OnwardLemmas
+pub mod CountSumLemmas
 pub mod BehindLemmas
 pub mod WalkLemmas
 pub mod CallgrindLemmas

@@ -11,16 +11,16 @@ use Rattle.ckrt_machine.specs.Events as machine
 use Rattle.ckrt_machine.specs.declared.event.RunEnd.{RunEnd}
 use Rattle.ckrt_machine.specs.Runs.{run_on, stop_of, stopped, with_byte}
 use Rattle.ckrt_machine.specs.Steps.{State, hart_of, hart_step}
-use Rattle.ckrt_look_steps.specs.Quiet.{is_quiet}
-use Rattle.ckrt_look_counts.specs.declared.counts.Note.{Note}
-use Rattle.ckrt_look_counts.specs.declared.counts.Note.TheVariants as note
-use Rattle.ckrt_look_counts.specs.declared.functions.Function.{Function}
-use Rattle.ckrt_look_counts.specs.declared.row.Row.{Row}
-use Rattle.ckrt_look_counts.specs.declared.shares.Share.{Share}
-use Rattle.ckrt_look_counts.specs.Functions.{first_of, functions_behind, functions_of, joined, with_stack}
-use Rattle.ckrt_look_counts.specs.Laws.{CountsSteps, steps_in}
-use Rattle.ckrt_look_counts.specs.Shares.{function_share, function_shares, functions, placed, ranked, ranked_behind}
-use Rattle.ckrt_look_counts.proofs.SumLemmas.{each_counts_once}
+use Rattle.ckrt_look_recording.specs.Quiet.{is_quiet}
+use Rattle.ckrt_look_profile.specs.declared.counts.Note.{Note}
+use Rattle.ckrt_look_profile.specs.declared.counts.Note.TheVariants as note
+use Rattle.ckrt_look_profile.specs.declared.functions.Function.{Function}
+use Rattle.ckrt_look_profile.specs.declared.row.Row.{Row}
+use Rattle.ckrt_look_profile.specs.declared.shares.Share.{Share}
+use Rattle.ckrt_look_profile.specs.Functions.{first_of, functions_behind, functions_of, joined, with_stack}
+use Rattle.ckrt_look_profile.specs.CountLaws.{CountsSteps, steps_in}
+use Rattle.ckrt_look_profile.specs.Shares.{function_share, function_shares, functions, placed, ranked, ranked_behind}
+use Rattle.ckrt_look_profile.proofs.CountSumLemmas.{each_counts_once}
 use Rattle.ckrt_look_profile.specs.Steps.{looks, looks_at, met_at, met_up_to, notes, of_event, of_events, of_run, of_step, unless_ended}
 use Rattle.ckrt_look_profile.specs.Recorded.{counted_of}
 use Rattle.ckrt_look_profile.specs.Laws.{FunctionsHaveAllSteps, SumsAreTheSteps, share_steps, steps_made, steps_of}

@@ -6,7 +6,7 @@ use Rattle.ckrt_machine.specs.Runs.{stop_of, with_byte}
 use Rattle.ckrt_machine.specs.Steps.{State, hart_step}
 use Rattle.ckrt_look_calls.specs.Events.{state_behind}
 use Rattle.ckrt_look_calls.proofs.RunLemmas.{state_next}
-use Rattle.ckrt_look_counts.specs.Counts.{Counts, behind_all}
+use Rattle.ckrt_look_profile.specs.Counts.{Counts, behind_all}
 use Rattle.ckrt_look_profile.specs.Steps.{of_rest, of_run, of_step, unless_ended}
 use Rattle.ckrt_look_profile.proofs.BehindLemmas.{behind_both}
 

@@ -2,12 +2,12 @@
 -- where it was made.
 use Rattle.std.specs.Prelude.{ℕ, zero, suc, ◌+◌, ◌==◌, ◌||◌, Bool, false, if◌then◌else◌, List, [], ◌∷◌, ◌++◌, length, slice_get, codes, decimal, Option, Some, None}
 use Rattle.ckrt_inspect.specs.Texts.{hex_text}
-use Rattle.ckrt_look_counts.specs.declared.row.Base.{Base}
-use Rattle.ckrt_look_counts.specs.declared.row.Base.TheVariants as base
-use Rattle.ckrt_look_counts.specs.declared.row.Row.{Row}
-use Rattle.ckrt_look_counts.specs.Counts.{Counts}
-use Rattle.ckrt_look_counts.specs.Shares.{total}
-use Rattle.ckrt_look_counts.specs.Stacks.{together}
+use Rattle.ckrt_look_profile.specs.declared.row.Base.{Base}
+use Rattle.ckrt_look_profile.specs.declared.row.Base.TheVariants as base
+use Rattle.ckrt_look_profile.specs.declared.row.Row.{Row}
+use Rattle.ckrt_look_profile.specs.Counts.{Counts}
+use Rattle.ckrt_look_profile.specs.Shares.{total}
+use Rattle.ckrt_look_profile.specs.Stacks.{together}
 
 -- WHETHER A ROW IS ONE OF A BASE, of which so many calls are on the way at most
 

@@ -6,9 +6,9 @@ use Rattle.ckrt_machine.specs.Events as machine
 use Rattle.ckrt_machine.specs.Steps.{State}
 use Rattle.ckrt_machine.specs.declared.event.Answer.{Answer}
 use Rattle.ckrt_machine.specs.declared.event.Answer.TheVariants.{Placed, Ran, Taken, Closed, Ticked}
-use Rattle.ckrt_look_counts.specs.declared.shares.Share.{Share}
-use Rattle.ckrt_look_counts.specs.Laws.{CountsSteps}
-use Rattle.ckrt_look_counts.specs.Shares.{functions, ranked}
+use Rattle.ckrt_look_profile.specs.declared.shares.Share.{Share}
+use Rattle.ckrt_look_profile.specs.CountLaws.{CountsSteps}
+use Rattle.ckrt_look_profile.specs.Shares.{functions, ranked}
 use Rattle.ckrt_look_profile.specs.Recorded.{counted_of}
 
 -- the steps that a machine says it made

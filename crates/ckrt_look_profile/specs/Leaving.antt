@@ -3,12 +3,12 @@ use Rattle.std.specs.Prelude.{ℕ, zero, suc, ◌==◌, ◌||◌, not, Bool, tru
 use Rattle.ckrt_memory.specs.Reasons.{Meets}
 use Rattle.ckrt_rv32i.specs.Memory.{is_valid, loaded}
 use Rattle.ckrt_rv32i.specs.declared.memory_bus.Size.TheVariants as size
-use Rattle.ckrt_look_counts.specs.declared.turn.Turn.{Turn}
-use Rattle.ckrt_look_counts.specs.declared.turn.Turn.TheVariants as turn
-use Rattle.ckrt_look_counts.specs.Turns.{turn_of}
+use Rattle.ckrt_look_profile.specs.declared.turn.Turn.{Turn}
+use Rattle.ckrt_look_profile.specs.declared.turn.Turn.TheVariants as turn
+use Rattle.ckrt_look_profile.specs.Turns.{turn_of}
 use Rattle.ckrt_machine.specs.Runs.{with_byte}
 use Rattle.ckrt_machine.specs.Steps.{State, hart_of, hart_step}
-use Rattle.ckrt_look_steps.specs.Quiet.{is_at_gate}
+use Rattle.ckrt_look_recording.specs.Quiet.{is_at_gate}
 use Rattle.ckrt_look_profile.specs.Steps.{step_by}
 
 abbrev pub is_onward : Turn → Bool

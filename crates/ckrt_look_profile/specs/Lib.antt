@@ -1,3 +1,10 @@
+pub mod Turns
+pub mod Stacks
+pub mod Functions
+pub mod Waits
+pub mod Counts
+pub mod Shares
+pub mod CountLaws
 pub mod Steps
 pub mod Callgrind
 pub mod Texts

@@ -2,7 +2,7 @@
 use Rattle.std.specs.Prelude.{◌≡◌, ℕ, List}
 use Rattle.ckrt_events.specs.declared.event.Event.{Event}
 use Rattle.ckrt_machine.specs.Steps.{State}
-use Rattle.ckrt_look_counts.specs.Counts.{Counts, behind_all, nothing}
+use Rattle.ckrt_look_profile.specs.Counts.{Counts, behind_all, nothing}
 use Rattle.ckrt_look_profile.specs.declared.form.Form.{Form}
 use Rattle.ckrt_look_profile.specs.Steps.{notes}
 use Rattle.ckrt_look_profile.specs.Texts.{profile_text}

@@ -13,15 +13,15 @@ use Rattle.ckrt_machine.specs.Events as machine
 use Rattle.ckrt_machine.specs.declared.event.RunEnd.{RunEnd}
 use Rattle.ckrt_machine.specs.Runs.{stop_of, with_byte}
 use Rattle.ckrt_machine.specs.Steps.{State, Stepped, hart_of, hart_step}
-use Rattle.ckrt_look_steps.specs.Quiet.{is_quiet}
-use Rattle.ckrt_look_counts.specs.declared.counts.Note.{Note}
-use Rattle.ckrt_look_counts.specs.declared.counts.Note.TheVariants as note
-use Rattle.ckrt_look_counts.specs.declared.counts.Step.{Step}
-use Rattle.ckrt_look_counts.specs.declared.turn.Turn.{Turn}
-use Rattle.ckrt_look_counts.specs.declared.turn.Turn.TheVariants as turn
-use Rattle.ckrt_look_counts.specs.declared.waits.Awaited.{Awaited}
-use Rattle.ckrt_look_counts.specs.declared.waits.Awaited.TheVariants as awaited
-use Rattle.ckrt_look_counts.specs.Turns.{turn_of}
+use Rattle.ckrt_look_recording.specs.Quiet.{is_quiet}
+use Rattle.ckrt_look_profile.specs.declared.counts.Note.{Note}
+use Rattle.ckrt_look_profile.specs.declared.counts.Note.TheVariants as note
+use Rattle.ckrt_look_profile.specs.declared.counts.Step.{Step}
+use Rattle.ckrt_look_profile.specs.declared.turn.Turn.{Turn}
+use Rattle.ckrt_look_profile.specs.declared.turn.Turn.TheVariants as turn
+use Rattle.ckrt_look_profile.specs.declared.waits.Awaited.{Awaited}
+use Rattle.ckrt_look_profile.specs.declared.waits.Awaited.TheVariants as awaited
+use Rattle.ckrt_look_profile.specs.Turns.{turn_of}
 
 -- WAITS: who waits for a mutex behind a condition waits for the mutex
 

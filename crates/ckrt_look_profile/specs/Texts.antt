@@ -3,16 +3,16 @@
 use Rattle.std.specs.Prelude.{ℕ, zero, suc, ◌-◌, ◌*◌, ◌/◌, ◌%◌, ◌==◌, nat_lt, min, if◌then◌else◌, List, [], ◌++◌, length, take, drop, slice_get, codes, decimal, Option, Some, None}
 use Rattle.std.specs.List.{flat_map}
 use Rattle.ckrt_inspect.specs.Texts.{hex_text}
-use Rattle.ckrt_look_counts.specs.declared.row.Base.{Base}
-use Rattle.ckrt_look_counts.specs.declared.row.Base.TheVariants as base
-use Rattle.ckrt_look_counts.specs.declared.row.Row.{Row}
-use Rattle.ckrt_look_counts.specs.declared.shares.Share.{Share}
-use Rattle.ckrt_look_counts.specs.declared.shares.Subject.{Subject}
-use Rattle.ckrt_look_counts.specs.declared.shares.Subject.TheVariants as subject
-use Rattle.ckrt_look_counts.specs.declared.waits.Awaited.{Awaited}
-use Rattle.ckrt_look_counts.specs.declared.waits.Awaited.TheVariants as awaited
-use Rattle.ckrt_look_counts.specs.Counts.{Counts}
-use Rattle.ckrt_look_counts.specs.Shares.{functions, ranked, steps_of, thread_shares, total, wait_shares}
+use Rattle.ckrt_look_profile.specs.declared.row.Base.{Base}
+use Rattle.ckrt_look_profile.specs.declared.row.Base.TheVariants as base
+use Rattle.ckrt_look_profile.specs.declared.row.Row.{Row}
+use Rattle.ckrt_look_profile.specs.declared.shares.Share.{Share}
+use Rattle.ckrt_look_profile.specs.declared.shares.Subject.{Subject}
+use Rattle.ckrt_look_profile.specs.declared.shares.Subject.TheVariants as subject
+use Rattle.ckrt_look_profile.specs.declared.waits.Awaited.{Awaited}
+use Rattle.ckrt_look_profile.specs.declared.waits.Awaited.TheVariants as awaited
+use Rattle.ckrt_look_profile.specs.Counts.{Counts}
+use Rattle.ckrt_look_profile.specs.Shares.{functions, ranked, steps_of, thread_shares, total, wait_shares}
 use Rattle.ckrt_look_profile.specs.Callgrind.{callgrind_text}
 use Rattle.ckrt_look_profile.specs.declared.form.Form.{Form}
 use Rattle.ckrt_look_profile.specs.declared.form.Form.TheVariants as form

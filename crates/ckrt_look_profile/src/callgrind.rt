@@ -3,8 +3,10 @@ ghost use Rattle.std.specs.Prelude.{◌≡◌, OnOk};
 ghost use Rattle.std.specs.Io.KnownBytes.{Appends};
 ghost use Rattle.ckrt_look_profile.specs.Callgrind.{call_text, called_text, caller_at, caller_text, callgrind_text, cost_text, is_on, own_text, rest_text, row_text, rows_text, stacks_text, start_text, whole, with_row};
 
+use crate::counts::Counts;
+use crate::row::{Base, Row};
+use crate::shares::total_of;
 use ckrt_look_calls::{write_counted, write_hex, write_number};
-use ckrt_look_counts::{Base, Counts, Row, total_of};
 use std::io::{Result, Write};
 
 /// Whether a row is one of a base, of which so many calls are on the way at most.

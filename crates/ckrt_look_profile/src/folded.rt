@@ -4,8 +4,9 @@ ghost use Rattle.std.specs.List.{flat_map};
 ghost use Rattle.std.specs.Io.KnownBytes.{Appends};
 ghost use Rattle.ckrt_look_profile.specs.Texts.{base_text, entry_text, folded_of, folded_text, others_line, row_line, stack_line};
 
+use crate::counts::Counts;
+use crate::row::{Base, Row};
 use ckrt_look_calls::{write_counted, write_hex};
-use ckrt_look_counts::{Base, Counts, Row};
 use std::io::{Result, Write};
 
 /// A frame of a function.

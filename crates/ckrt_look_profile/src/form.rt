@@ -5,10 +5,10 @@ ghost use Rattle.ckrt_look_profile.specs.Callgrind.{callgrind_text};
 ghost use Rattle.ckrt_look_profile.specs.Texts.{folded_text, profile_text};
 
 use crate::callgrind::write_callgrind;
+use crate::counts::Counts;
 use crate::folded::write_folded;
 use crate::table::write_table;
 use ckrt_inspect::InspectFault;
-use ckrt_look_counts::Counts;
 use std::alloc::Global;
 use std::io::Write;
 

@@ -4,7 +4,7 @@ ghost use Rattle.ckrt_rv32i.specs.Memory.{loaded};
 ghost use Rattle.ckrt_rv32i.specs.declared.memory_bus.Size.TheVariants as size;
 ghost use Rattle.ckrt_look_profile.specs.Leaving.{is_onward, leaves, leaves_at};
 
-use ckrt_look_counts::{Turn, turn_of};
+use crate::turn::{Turn, turn_of};
 use ckrt_memory::StopReason;
 use ckrt_thread::{RETURN_GATE, UNWIND_GATE};
 

@@ -4,16 +4,16 @@ ghost use Rattle.std.specs.Bool.{OnFalse, OnTrue};
 ghost use Rattle.std.specs.Io.KnownBytes.{Appends};
 ghost use Rattle.ckrt_machine.specs.Events.{AllAccepted};
 ghost use Rattle.ckrt_look_calls.specs.Stretches.{IsEventsFault};
-ghost use Rattle.ckrt_look_counts.specs.Counts.{behind_all};
+ghost use Rattle.ckrt_look_profile.specs.Counts.{behind_all};
 ghost use Rattle.ckrt_look_profile.specs.Recorded.{text_of};
 ghost use Rattle.ckrt_look_profile.specs.Steps.{notes, of_events};
 ghost use Rattle.ckrt_look_profile.specs.Texts.{profile_text};
 
+use crate::counts::Counts;
 use crate::form::{Form, write_form};
 use crate::walk::{count_event, look_last, meet_all};
 use ckrt_events::Event;
 use ckrt_inspect::InspectFault;
-use ckrt_look_counts::Counts;
 use ckrt_machine::Machine;
 use std::alloc::Global;
 use std::io::Write;

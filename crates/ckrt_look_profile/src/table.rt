@@ -1,13 +1,14 @@
 //! The table of a profile.
 ghost use Rattle.std.specs.Prelude.{◌≡◌, ◌⊎◌, IfErr, IfOk, OnOk};
 ghost use Rattle.std.specs.Io.KnownBytes.{Appends};
-ghost use Rattle.ckrt_look_counts.specs.Shares.{functions, ranked, thread_shares, total, wait_shares};
+ghost use Rattle.ckrt_look_profile.specs.Shares.{functions, ranked, thread_shares, total, wait_shares};
 ghost use Rattle.ckrt_look_profile.specs.Texts.{functions_text, steps_text, table_of, table_text, threads_text, waits_text};
 
+use crate::counts::Counts;
+use crate::shares::{Share, functions_of, rank, threads_of, total_of, waits_of};
 use crate::texts::{Section, write_section};
 use ckrt_inspect::InspectFault;
 use ckrt_look_calls::write_counted;
-use ckrt_look_counts::{Counts, Share, functions_of, rank, threads_of, total_of, waits_of};
 use std::alloc::{AllocError, Global};
 use std::io;
 use std::io::Write;

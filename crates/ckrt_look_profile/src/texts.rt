@@ -3,11 +3,12 @@ ghost use Rattle.std.specs.Prelude.{◌≡◌, ◌≤◌, ◌++◌, codes, OnOk}
 ghost use Rattle.std.specs.List.{flat_map};
 ghost use Rattle.std.specs.Io.KnownBytes.{Appends};
 ghost use Rattle.ckrt_inspect.specs.Texts.{hex_text};
-ghost use Rattle.ckrt_look_counts.specs.Shares.{steps_of as shares_steps};
+ghost use Rattle.ckrt_look_profile.specs.Shares.{steps_of as shares_steps};
 ghost use Rattle.ckrt_look_profile.specs.Texts.{awaited_text, function_text, head_text, hundredths, line_of, padded, percent_text, section_text, share_line, share_text, subject_text, top_text, two_digits, wait_text};
 
+use crate::shares::{Share, Subject, steps_of};
+use crate::waits::Awaited;
 use ckrt_look_calls::{write_counted, write_hex, write_number};
-use ckrt_look_counts::{Awaited, Share, Subject, steps_of};
 use std::io::{Result, Write};
 
 /// Twenty spaces.

@@ -7,18 +7,20 @@ ghost use Rattle.ckrt_machine.specs.Runs.{run_on, stop_of, with_byte};
 ghost use Rattle.ckrt_machine.specs.Steps.{hart_of, hart_step};
 ghost use Rattle.ckrt_look_calls.specs.Events.{state_behind};
 ghost use Rattle.ckrt_look_calls.specs.Lines.{MayStep, put_before};
-ghost use Rattle.ckrt_look_counts.specs.Counts.{behind_all};
+ghost use Rattle.ckrt_look_profile.specs.Counts.{behind_all};
 ghost use Rattle.ckrt_look_profile.specs.Steps.{awaited_of, looks, looks_at, met, met_up_to, of_event, of_rest, of_run, of_step, step_by, turn_at, word_turn};
 
+use crate::counts::{Counts, Note, Step};
 use crate::leaving::AtLeaving;
+use crate::turn::{Turn, turn_of};
+use crate::waits::Awaited;
+use ckrt_calls::Tables;
 use ckrt_events::Event;
 use ckrt_look_calls::{advance, is_stopped};
-use ckrt_look_counts::{Awaited, Counts, Note, Step, Turn, turn_of};
-use ckrt_look_steps::{go_quietly_to, is_quiet};
+use ckrt_look_recording::{go_quietly_to, is_quiet};
 use ckrt_machine::Machine;
 use ckrt_memory::Memory;
 use ckrt_rv32i::{Bus, Size};
-use ckrt_state::Tables;
 use ckrt_thread::{Reason, Wait};
 
 /// What is waited for.

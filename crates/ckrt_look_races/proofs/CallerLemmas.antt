@@ -1,9 +1,9 @@
 -- Callers, one after another.
 use Rattle.std.proofs.Common.{ℕ, zero, suc, ◌≡◌, ◌<◌, ◌-◌, ◌++◌, ◌∙◌, List, [], Option, Some, None, ap, refl, arith}
 use Rattle.std.specs.Option.{option_map_or}
-use Rattle.ckrt_look_callers.specs.Frames.{next_frame}
-use Rattle.ckrt_look_callers.specs.declared.frame.Frame.{Frame}
-use Rattle.ckrt_look_callers.specs.declared.rule.Rule.{Rule}
+use Rattle.ckrt_look_recording.specs.Frames.{next_frame}
+use Rattle.ckrt_look_recording.specs.declared.frame.Frame.{Frame}
+use Rattle.ckrt_look_recording.specs.declared.rule.Rule.{Rule}
 use Rattle.ckrt_look_races.specs.declared.moment.Moment.{Moment}
 use Rattle.ckrt_look_races.specs.Moments.{caller_line, caller_lines}
 

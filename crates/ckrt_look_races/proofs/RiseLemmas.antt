@@ -15,7 +15,7 @@ use Rattle.ckrt_machine.specs.Events as machine
 use Rattle.ckrt_machine.specs.declared.event.RunEnd.{RunEnd}
 use Rattle.ckrt_machine.specs.Runs.{stop_of, with_byte}
 use Rattle.ckrt_machine.specs.Steps.{State, hart_of, hart_step}
-use Rattle.ckrt_look_steps.specs.Quiet.{is_quiet}
+use Rattle.ckrt_look_recording.specs.Quiet.{is_quiet}
 use Rattle.ckrt_look_clocks.specs.declared.operation.Place.{Place}
 use Rattle.ckrt_look_clocks.specs.declared.operation.Operation.{Operation}
 use Rattle.ckrt_look_clocks.specs.declared.operation.Operation.TheVariants as operation
@@ -27,7 +27,7 @@ use Rattle.ckrt_look_races.specs.declared.accesses.Stepping.{Stepping}
 use Rattle.ckrt_look_races.specs.declared.accesses.Order.{Order}
 use Rattle.ckrt_look_races.specs.declared.accesses.Order.TheVariants as order
 use Rattle.ckrt_look_races.specs.declared.holders.Lock.TheVariants as lock
-use Rattle.ckrt_look_steps.specs.Accesses.{fetched, may_access}
+use Rattle.ckrt_look_recording.specs.Accesses.{fetched, may_access}
 use Rattle.ckrt_look_races.specs.Accesses.{access_of, accesses, fence_by, fence_operations, is_renewal, is_thread_fence, load_at, load_operations, load_order, of_instruction, of_registers, renewal, store_at, store_operations, store_order}
 use Rattle.ckrt_look_races.specs.Holders.{HOLDERS}
 use Rattle.ckrt_look_races.specs.Kit.{is_in_kit}

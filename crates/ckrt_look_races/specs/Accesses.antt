@@ -17,7 +17,7 @@ use Rattle.ckrt_look_clocks.specs.declared.operation.Block.{Block}
 use Rattle.ckrt_look_clocks.specs.declared.operation.Place.{Place}
 use Rattle.ckrt_look_clocks.specs.declared.operation.Operation.{Operation}
 use Rattle.ckrt_look_clocks.specs.declared.operation.Operation.TheVariants as operation
-use Rattle.ckrt_look_steps.specs.Accesses.{fetched, may_access}
+use Rattle.ckrt_look_recording.specs.Accesses.{fetched, may_access}
 use Rattle.ckrt_look_races.specs.declared.accesses.Order.{Order}
 use Rattle.ckrt_look_races.specs.declared.accesses.Order.TheVariants as order
 use Rattle.ckrt_look_races.specs.declared.accesses.Stepping.{Stepping}

@@ -5,7 +5,7 @@ use Rattle.ckrt_events.specs.declared.event.Event.TheVariants.{Place as Placing,
 use Rattle.ckrt_machine.specs.Events.{AllAccepted, fold, step}
 use Rattle.ckrt_machine.specs.Steps.{State}
 use Rattle.ckrt_inspect.specs.Texts.{hex_text}
-use Rattle.ckrt_look_callers.specs.declared.rule.Rule.{Rule}
+use Rattle.ckrt_look_recording.specs.declared.rule.Rule.{Rule}
 use Rattle.ckrt_look_clocks.specs.declared.operation.Access.{Access}
 use Rattle.ckrt_look_clocks.specs.declared.operation.Block.{Block}
 use Rattle.ckrt_look_clocks.specs.declared.operation.Place.{Place}

@@ -2,7 +2,7 @@
 -- such a name is a kit's own, as the lock of its heap, and a program may not rely on who had it before.
 use Rattle.std.specs.Prelude.{ℕ, ◌||◌, nat_lt, Bool, if◌then◌else◌, List, []}
 use Rattle.ckrt_mutex.specs.Mutex.{is_owner, mutex_at}
-use Rattle.ckrt_state.specs.declared.table.Tables.{Tables}
+use Rattle.ckrt_calls.specs.declared.table.Tables.{Tables}
 use Rattle.ckrt_look_clocks.specs.declared.operation.Operation.{Operation}
 
 abbrev pub is_of_kit : (address : ℕ) → Bool

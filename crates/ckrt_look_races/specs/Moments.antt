@@ -9,12 +9,12 @@ use Rattle.ckrt_mutex.specs.Mutex.{is_owner}
 use Rattle.ckrt_mutex.specs.declared.records.Mutex.{Mutex}
 use Rattle.ckrt_rwlock.specs.RwLock.{is_holder, is_writer}
 use Rattle.ckrt_rwlock.specs.declared.records.RwLock.{RwLock}
-use Rattle.ckrt_state.specs.declared.table.Tables.{Tables}
+use Rattle.ckrt_calls.specs.declared.table.Tables.{Tables}
 use Rattle.ckrt_machine.specs.Steps.{State}
 use Rattle.ckrt_inspect.specs.Texts.{hex_text}
-use Rattle.ckrt_look_callers.specs.Frames.{frame_of, next_frame}
-use Rattle.ckrt_look_callers.specs.declared.frame.Frame.{Frame}
-use Rattle.ckrt_look_callers.specs.declared.rule.Rule.{Rule}
+use Rattle.ckrt_look_recording.specs.Frames.{frame_of, next_frame}
+use Rattle.ckrt_look_recording.specs.declared.frame.Frame.{Frame}
+use Rattle.ckrt_look_recording.specs.declared.rule.Rule.{Rule}
 use Rattle.ckrt_look_clocks.specs.declared.operation.Place.{Place}
 use Rattle.ckrt_look_races.specs.declared.moment.Moment.{Moment}
 use Rattle.ckrt_look_races.specs.Kit.{is_of_kit}

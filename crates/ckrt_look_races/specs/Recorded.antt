@@ -2,7 +2,7 @@
 use Rattle.std.specs.Prelude.{◌≡◌, ℕ, ◌+◌, ◌/◌, List, length}
 use Rattle.ckrt_events.specs.declared.event.Event.{Event}
 use Rattle.ckrt_machine.specs.Steps.{State}
-use Rattle.ckrt_look_callers.specs.declared.rule.Rule.{Rule}
+use Rattle.ckrt_look_recording.specs.declared.rule.Rule.{Rule}
 use Rattle.ckrt_look_clocks.specs.Detection.{Found, behind_all, fresh}
 use Rattle.ckrt_look_races.specs.Again.{Replay, race_text}
 use Rattle.ckrt_look_races.specs.Holders.{HOLDERS}

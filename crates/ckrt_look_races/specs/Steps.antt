@@ -6,7 +6,7 @@ use Rattle.ckrt_machine.specs.Events as machine
 use Rattle.ckrt_machine.specs.declared.event.RunEnd.{RunEnd}
 use Rattle.ckrt_machine.specs.Runs.{stop_of, with_byte}
 use Rattle.ckrt_machine.specs.Steps.{State, Stepped, hart_of, hart_step}
-use Rattle.ckrt_look_steps.specs.Quiet.{is_quiet}
+use Rattle.ckrt_look_recording.specs.Quiet.{is_quiet}
 use Rattle.ckrt_look_calls.specs.Lines.{caller_of}
 use Rattle.ckrt_look_clocks.specs.declared.operation.Place.{Place}
 use Rattle.ckrt_look_clocks.specs.declared.operation.Operation.{Operation}

@@ -2,7 +2,7 @@
 use Rattle.std.specs.Prelude.{Bool, false, Option, Some, None}
 use Rattle.ckrt_registers.specs.Registers.{get}
 use Rattle.ckrt_rwlock.specs.RwLock.{is_writer, lock_at}
-use Rattle.ckrt_state.specs.declared.table.Tables.{Tables}
+use Rattle.ckrt_calls.specs.declared.table.Tables.{Tables}
 use Rattle.ckrt_look_calls.specs.declared.lines.Caller.{Caller}
 
 -- that of the call's first argument

@@ -3,13 +3,13 @@ ghost use Rattle.std.specs.Prelude.{◌≡◌, ◌<◌, ◌%◌};
 ghost use Rattle.ckrt_machine.specs.Steps.{hart_of};
 ghost use Rattle.ckrt_look_clocks.specs.declared.operation.Operation.TheVariants as operation;
 ghost use Rattle.ckrt_look_clocks.specs.Detection.{behind_all};
-ghost use Rattle.ckrt_look_steps.specs.Accesses.{fetched};
+ghost use Rattle.ckrt_look_recording.specs.Accesses.{fetched};
 ghost use Rattle.ckrt_look_races.specs.Accesses.{access_of, accesses, block_of, place_behind, fence_by, fence_operations, is_renewal, is_thread_fence, is_word_at, load_at, load_operations, load_order, of_instruction, order_by, renewal_by, store_at, store_operations, store_order, told};
 
 use crate::holders::{Lock, acquired, handed_on, released, thread_holder};
 use crate::kit::is_in_kit;
 use ckrt_look_clocks::{Access, Block, Detector, Place};
-use ckrt_look_steps::{byte_count, fetched, may_access};
+use ckrt_look_recording::{byte_count, fetched, may_access};
 use ckrt_machine::Machine;
 use ckrt_memory::Memory;
 use ckrt_registers::Regs;

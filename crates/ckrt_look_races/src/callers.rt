@@ -5,7 +5,7 @@ ghost use Rattle.ckrt_look_races.specs.Moments.{access_lines, caller_line, calle
 
 use crate::held::write_held;
 use crate::moment::{Moment, write_moment_line};
-use ckrt_look_callers::{Frame, Rule, caller_of};
+use ckrt_look_recording::{Frame, Rule, caller_of};
 use ckrt_machine::Machine;
 use ckrt_memory::Memory;
 use ckrt_registers::Regs;

@@ -11,11 +11,10 @@ use crate::kit::is_of_kit;
 use crate::orders::{take_mutex, take_to_read, take_to_write, waits_now};
 use ckrt_barrier::SERIAL_THREAD;
 use ckrt_calls::{
-    BarrierCall, Call, CancellationCall, ConditionCall, MutexCall, RwLockCall, ThreadCall,
+    BarrierCall, Call, CancellationCall, ConditionCall, MutexCall, RwLockCall, Tables, ThreadCall,
 };
 use ckrt_look_calls::Caller;
 use ckrt_look_clocks::{Detector, Place};
-use ckrt_state::Tables;
 use ckrt_thread::{Reason, ThreadId, Wait};
 
 /// Whether a call was answered so.

@@ -6,10 +6,10 @@ ghost use Rattle.ckrt_look_races.specs.Moments.{held_lines, holds_any, holds_mut
 
 use crate::kit::is_of_kit;
 use crate::moment::{Moment, write_moment, write_moment_line};
+use ckrt_calls::Tables;
 use ckrt_mutex::Mutex;
 use ckrt_objects::Entry;
 use ckrt_rwlock::RwLock;
-use ckrt_state::Tables;
 use ckrt_thread::ThreadId;
 use std::io::{Result, Write};
 

@@ -3,8 +3,8 @@ ghost use Rattle.std.specs.Prelude.{◌≡◌};
 ghost use Rattle.ckrt_mutex.specs.Mutex.{is_owner, mutex_at};
 ghost use Rattle.ckrt_look_races.specs.Kit.{is_in_kit, is_of_kit};
 
+use ckrt_calls::Tables;
 use ckrt_mutex::Mutexes;
-use ckrt_state::Tables;
 use ckrt_thread::ThreadId;
 
 /// Whether a name is one of a kit's own locks, as no variable of a program has it.

@@ -7,10 +7,9 @@ ghost use Rattle.ckrt_look_races.specs.Acting.{acting, acts, is_at_point};
 ghost use Rattle.ckrt_look_races.specs.Writers.{writes};
 
 use arrayvec::ArrayVec;
-use ckrt_calls::Call;
+use ckrt_calls::{Call, Tables};
 use ckrt_look_calls::{Caller, next_caller};
 use ckrt_machine::Machine;
-use ckrt_state::Tables;
 use ckrt_thread::{Live, MAX_THREADS, ThreadId, Wait};
 
 /// Who makes a call by the step, whether that thread has the read-write lock of its first argument to write, who acts on a request by

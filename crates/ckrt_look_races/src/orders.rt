@@ -8,8 +8,8 @@ ghost use Rattle.ckrt_look_races.specs.Orders.{is_cancelled, is_retake, of_actin
 
 use crate::holders::{Lock, acquired, ordered};
 use crate::kit::is_of_kit;
+use ckrt_calls::Tables;
 use ckrt_look_clocks::{Detector, Place};
-use ckrt_state::Tables;
 use ckrt_thread::{CANCELED, Reason, Thread, ThreadId, Threads, Wait};
 
 /// Whether a thread waits.

@@ -3,12 +3,12 @@ ghost use Rattle.std.specs.Prelude.{◌≡◌, ◌≤◌, ◌-◌, drop, length,
 ghost use Rattle.ckrt_machine.specs.Events.{AllAccepted, fold};
 ghost use Rattle.ckrt_look_races.specs.Again.{IsBehind, IsSound, first_steps, replay_of, run_of, state_at, steps_of, stepped};
 
+use ckrt_calls::Tables;
 use ckrt_events::Event;
-use ckrt_look_callers::Rule;
 use ckrt_look_clocks::Place;
+use ckrt_look_recording::Rule;
 use ckrt_machine::Machine;
 use ckrt_memory::Memory;
-use ckrt_state::Tables;
 use ckrt_stored::restore_tables;
 use std::alloc::{AllocError, Global};
 

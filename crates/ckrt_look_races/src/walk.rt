@@ -2,7 +2,8 @@
 ghost use Rattle.std.specs.Prelude.{◌≡◌, ◌≤◌, ◌<◌, ◌-◌, [], None};
 ghost use Rattle.ckrt_events.specs.Bytes.{IsInRange};
 ghost use Rattle.ckrt_events.specs.declared.event.Event.TheVariants.{Run};
-ghost use Rattle.ckrt_machine.specs.Events.{step, refusal_of};
+ghost use Rattle.ckrt_memory.specs.Marks.{Follows};
+ghost use Rattle.ckrt_machine.specs.Events.{memory_in, step, refusal_of};
 ghost use Rattle.ckrt_machine.specs.Runs.{run_on, with_byte};
 ghost use Rattle.ckrt_machine.specs.Steps.{hart_step};
 ghost use Rattle.ckrt_look_calls.specs.Events.{state_behind};
@@ -15,12 +16,12 @@ use crate::accesses::watch_accesses;
 use crate::calls::watch_caller;
 use crate::looking::{Before, look};
 use crate::orders::{watch_acting, watch_waits};
+use ckrt_calls::Tables;
 use ckrt_events::Event;
 use ckrt_look_calls::{advance, is_stopped};
 use ckrt_look_clocks::{Detector, Place};
-use ckrt_look_steps::is_quiet;
+use ckrt_look_recording::is_quiet;
 use ckrt_machine::Machine;
-use ckrt_state::Tables;
 
 /// A step that was made, and is no plain instruction.
 #[tactic(auto, using(crate::proofs::BehindLemmas::behind_both))]
@@ -52,6 +53,7 @@ fn watch_step(
     requires may { MayStep is_first hart machine.old }
     requires room { place.step < 4294967295 }
     ensures state { machine.new.state ≡ (hart_step hart machine.old.state).state }
+    ensures follows { Follows (memory_in machine.old) (memory_in machine.new) }
     ensures output { machine.new.output
         ≡ with_byte (hart_step hart machine.old.state).put (put_before is_first machine.old) }
     ensures watched { detector.new
@@ -72,6 +74,7 @@ fn watch_steps(machine: &mut Machine, made: Place, hart: u8, limit: u32, detecto
     requires { made.step ≤ limit }
     ensures state { machine.new.state
         ≡ state_behind (limit - made.step) hart machine.old.state machine.old.output }
+    ensures follows { Follows (memory_in machine.old) (memory_in machine.new) }
     ensures watched { detector.new
         ≡ behind_all (of_rest made.event (limit - made.step) made.step hart machine.old.state
         machine.old.output) detector.old }
@@ -94,6 +97,7 @@ fn watch_run(machine: &mut Machine, event: u64, hart: u8, limit: u32, detector: 
     requires some { 1 ≤ limit }
     requires accepted { refusal_of 0 (Run hart 1) machine.old.state ≡ None }
     ensures state { machine.new.state ≡ (run_on limit hart machine.old.state []).state }
+    ensures follows { Follows (memory_in machine.old) (memory_in machine.new) }
     ensures watched { detector.new
         ≡ behind_all (of_run event limit 0 hart machine.old.state []) detector.old }
 {
@@ -106,6 +110,7 @@ fn watch_other(machine: &mut Machine, count: u64, event: &Event, detector: &mut 
     requires in_range { IsInRange event.now }
     requires accepted { refusal_of 0 event.now machine.old.state ≡ None }
     ensures state { machine.new.state ≡ (step event.now machine.old.state).state }
+    ensures follows { Follows (memory_in machine.old) (memory_in machine.new) }
     ensures watched { detector.new
         ≡ behind_all (of_other count event.now machine.old.state) detector.old }
 {
@@ -124,6 +129,7 @@ pub fn watch_event(machine: &mut Machine, count: u64, event: &Event, detector: &
     requires in_range { IsInRange event.now }
     requires accepted { refusal_of 0 event.now machine.old.state ≡ None }
     ensures state { machine.new.state ≡ (step event.now machine.old.state).state }
+    ensures follows { Follows (memory_in machine.old) (memory_in machine.new) }
     ensures watched { detector.new
         ≡ behind_all (of_event count event.now machine.old.state) detector.old }
 {

@@ -1,3 +1,6 @@
+pub mod NameLemmas
+pub mod WalkLemmas
+pub mod QuietLemmas
 pub mod ReadLemmas
 pub mod FindLemmas
 pub mod RecordedLemmas

@@ -1,10 +1,10 @@
 //! Whether two states are the same.
 ghost use Rattle.std.specs.Prelude.{◌≡◌, ◌↔◌, IsTrue, []};
-ghost use Rattle.ckrt_state.specs.WellFormed.{IsWellFormed};
+ghost use Rattle.ckrt_calls.specs.WellFormed.{IsWellFormed};
 
+use ckrt_calls::Tables;
 use ckrt_machine::Machine;
 use ckrt_memory::Memory;
-use ckrt_state::Tables;
 use ckrt_tables::{Held, TABLES_ROOM, encode_tables};
 use std::alloc::{AllocError, Global};
 

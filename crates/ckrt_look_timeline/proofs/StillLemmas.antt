@@ -16,8 +16,8 @@ use Rattle.ckrt_machine.specs.Steps as steps
 use Rattle.ckrt_machine.specs.Steps.{State, Stepped, hart_of, hart_step, slot_step, step_of, thread_step}
 use Rattle.ckrt_machine.proofs.RegsLaws.{regs_read}
 use Rattle.ckrt_thread.proofs.SlotLemmas.{slot_elsewhere}
-use Rattle.ckrt_look_steps.specs.Quiet.{is_ecall_at, is_plain, is_plain_of, is_quiet}
-use Rattle.ckrt_look_steps.proofs.QuietLemmas.{calls_there}
+use Rattle.ckrt_look_recording.specs.Quiet.{is_ecall_at, is_plain, is_plain_of, is_quiet}
+use Rattle.ckrt_look_recording.proofs.QuietLemmas.{calls_there}
 use Rattle.ckrt_look_timeline.specs.Still.{IsStill, standing}
 
 same_still : (s : threads.State) → IsStill s s

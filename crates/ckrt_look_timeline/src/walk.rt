@@ -12,7 +12,7 @@ use crate::activity::activities;
 use crate::timeline::{Timeline, note};
 use ckrt_events::Event;
 use ckrt_look_calls::{advance, is_stopped};
-use ckrt_look_steps::go_quietly;
+use ckrt_look_recording::go_quietly;
 use ckrt_machine::Machine;
 use ckrt_thread::Hart;
 use std::alloc::AllocError;

@@ -13,7 +13,7 @@ use Rattle.ckrt_thread.specs.declared.records.Reason.TheVariants as reason
 use Rattle.ckrt_thread.specs.Abi.{A0}
 use Rattle.ckrt_thread.specs.Errors.{EINVAL}
 use Rattle.ckrt_thread.specs.State as threads
-use Rattle.ckrt_state.specs.declared.table.Tables.{Tables}
+use Rattle.ckrt_calls.specs.declared.table.Tables.{Tables}
 use Rattle.ckrt_calls.specs.declared.number.Call.{Call}
 use Rattle.ckrt_calls.specs.declared.number.Call.TheVariants as call
 use Rattle.ckrt_calls.specs.declared.number.ProcessCall.{ProcessCall}

@@ -41,7 +41,7 @@ use Rattle.ckrt_objects.specs.AddressMap.{lookup, removed, stored}
 use Rattle.ckrt_cond.specs.Rows as condition
 use Rattle.ckrt_cancel.specs.Rows as cancel
 use Rattle.ckrt_cancel.specs.KeyRows as keys
-use Rattle.ckrt_state.specs.declared.table.Tables.{Tables}
+use Rattle.ckrt_calls.specs.declared.table.Tables.{Tables}
 use Rattle.ckrt_calls.specs.declared.number.Call.{Call}
 use Rattle.ckrt_calls.specs.declared.number.Call.TheVariants as call
 use Rattle.ckrt_calls.specs.declared.number.ProcessCall.{ProcessCall}

@@ -10,9 +10,9 @@ use Rattle.ckrt_rwlock.specs.RwLock.{lock_at}
 use Rattle.ckrt_rwlock.specs.Rows.{rwlock_rule}
 use Rattle.ckrt_barrier.proofs.WellFormed as barriers
 use Rattle.ckrt_rwlock.proofs.WellFormed as locks
-use Rattle.ckrt_state.specs.declared.table.Tables.{Tables}
-use Rattle.ckrt_state.specs.WellFormed.{IsWellFormed}
-use Rattle.ckrt_state.proofs.Beginnings.{well_formed_fresh, well_formed_keys_off}
+use Rattle.ckrt_calls.specs.declared.table.Tables.{Tables}
+use Rattle.ckrt_calls.specs.WellFormed.{IsWellFormed}
+use Rattle.ckrt_calls.proofs.Beginnings.{well_formed_fresh, well_formed_keys_off}
 use Rattle.ckrt_calls.proofs.MutexRows.{wait_rule, condition_rule}
 use Rattle.ckrt_calls.proofs.Readers.{well_formed_input, well_formed_closed}
 use Rattle.ckrt_calls.proofs.Ticks.{well_formed_ticked}

@@ -18,10 +18,10 @@ use Rattle.ckrt_thread.specs.State as threads
 use Rattle.ckrt_thread.specs.State.{is_live_thread, is_aligned, is_proper_slot}
 use Rattle.ckrt_thread.proofs.SlotLemmas.{kept_at, live_change}
 use Rattle.ckrt_thread.proofs.Changes as changes
-use Rattle.ckrt_state.specs.declared.table.Status.{Status}
-use Rattle.ckrt_state.specs.declared.table.Status.TheVariants.{Running, Exited, Faulted}
-use Rattle.ckrt_state.specs.declared.table.Tables.{Tables}
-use Rattle.ckrt_state.specs.WellFormed.{IsWellFormed}
+use Rattle.ckrt_calls.specs.declared.table.Status.{Status}
+use Rattle.ckrt_calls.specs.declared.table.Status.TheVariants.{Running, Exited, Faulted}
+use Rattle.ckrt_calls.specs.declared.table.Tables.{Tables}
+use Rattle.ckrt_calls.specs.WellFormed.{IsWellFormed}
 use Rattle.ckrt_calls.specs.Table as calls
 use Rattle.ckrt_calls.proofs.Kept.{MayCall, well_formed_change, well_formed_fault, well_formed_exited, well_formed_called, well_formed_acted, well_formed_unwound, well_formed_begun}
 use Rattle.ckrt_machine.specs.declared.event.RunEnd.{RunEnd}

@@ -14,7 +14,7 @@ use Rattle.ckrt_thread.specs.declared.records.Thread.TheVariants as thread
 use Rattle.ckrt_thread.specs.declared.records.Live.{Live}
 use Rattle.ckrt_thread.specs.Cancellation.{is_immediate}
 use Rattle.ckrt_thread.specs.State as threads
-use Rattle.ckrt_state.specs.declared.table.Tables.{Tables}
+use Rattle.ckrt_calls.specs.declared.table.Tables.{Tables}
 use Rattle.ckrt_calls.specs.Table as calls
 use Rattle.ckrt_machine.specs.declared.event.RunEnd.{RunEnd}
 use Rattle.ckrt_machine.specs.declared.event.RunEnd.TheVariants.{On}

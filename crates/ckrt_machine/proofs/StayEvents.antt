@@ -24,7 +24,7 @@ use Rattle.ckrt_thread.specs.Granting.{queue_of}
 use Rattle.ckrt_thread.specs.State as threads
 use Rattle.ckrt_thread.specs.Waits.{is_of}
 use Rattle.ckrt_thread.proofs.SlotLemmas.{cond_of, slot_at}
-use Rattle.ckrt_state.specs.declared.table.Tables.{Tables}
+use Rattle.ckrt_calls.specs.declared.table.Tables.{Tables}
 use Rattle.ckrt_calls.specs.Table as calls
 use Rattle.ckrt_events.specs.declared.event.Event.{Event}
 use Rattle.ckrt_events.specs.declared.event.Event.TheVariants.{Place, Run, Input, Eof, Tick, RunLong}

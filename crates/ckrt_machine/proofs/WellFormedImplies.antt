@@ -18,8 +18,8 @@ use Rattle.ckrt_mutex.specs.WellFormed.{meets, meets_at, waits_at_owned}
 use Rattle.ckrt_rwlock.specs.RwLock.{lock_at, is_exclusive}
 use Rattle.ckrt_rwlock.specs.Rows.{rwlock_rule}
 use Rattle.ckrt_rwlock.proofs.Table.{exclusive_at}
-use Rattle.ckrt_state.specs.declared.table.Tables.{Tables}
-use Rattle.ckrt_state.specs.WellFormed.{IsWellFormed}
+use Rattle.ckrt_calls.specs.declared.table.Tables.{Tables}
+use Rattle.ckrt_calls.specs.WellFormed.{IsWellFormed}
 use Rattle.ckrt_machine.specs.Steps.{hart_of}
 
 -- who waits to lock or to retake a mutex waits at one that is owned

@@ -1,7 +1,7 @@
 -- Whom to put onto a hart next: round robin by id (this project's choice).
 use Rattle.std.specs.Prelude.{ℕ, zero, suc, ◌-◌, ◌+◌, nat_lt, if◌then◌else◌, Option, Some, None, ◌&&◌}
 use Rattle.ckrt_thread.specs.State as threads
-use Rattle.ckrt_state.specs.declared.table.Tables.{Tables}
+use Rattle.ckrt_calls.specs.declared.table.Tables.{Tables}
 use Rattle.ckrt_machine.specs.Steps.{hart_of}
 use Rattle.ckrt_machine.specs.Runs.{is_running}
 

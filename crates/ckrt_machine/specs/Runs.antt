@@ -1,8 +1,8 @@
 -- Steps of a hart, up to the end of a run.
 use Rattle.std.specs.Prelude.{◌≡◌, ◌⊎◌, ◌≤◌, ◌<◌, ◌+◌, ℕ, zero, suc, nat_le, Bool, true, false, if◌then◌else◌, Option, Some, None, is_none, List, [], ◌∷◌, ◌++◌, length}
-use Rattle.ckrt_state.specs.declared.table.Status.{Status}
-use Rattle.ckrt_state.specs.declared.table.Status.TheVariants.{Running, Exited, Faulted}
-use Rattle.ckrt_state.specs.declared.table.Tables.{Tables}
+use Rattle.ckrt_calls.specs.declared.table.Status.{Status}
+use Rattle.ckrt_calls.specs.declared.table.Status.TheVariants.{Running, Exited, Faulted}
+use Rattle.ckrt_calls.specs.declared.table.Tables.{Tables}
 use Rattle.ckrt_machine.specs.declared.event.RunEnd.{RunEnd}
 use Rattle.ckrt_machine.specs.declared.event.RunEnd.TheVariants.{On, Off, End}
 use Rattle.ckrt_machine.specs.Steps.{State, Stepped, hart_of, hart_step}

@@ -16,8 +16,8 @@ use Rattle.ckrt_thread.specs.declared.records.Thread.TheVariants as thread
 use Rattle.ckrt_thread.specs.State as threads
 use Rattle.ckrt_thread.specs.Abi.{A0, RETURN_GATE, UNWIND_GATE}
 use Rattle.ckrt_thread.specs.Cancellation.{is_immediate}
-use Rattle.ckrt_state.specs.declared.table.Status.TheVariants.{Exited, Faulted}
-use Rattle.ckrt_state.specs.declared.table.Tables.{Tables}
+use Rattle.ckrt_calls.specs.declared.table.Status.TheVariants.{Exited, Faulted}
+use Rattle.ckrt_calls.specs.declared.table.Tables.{Tables}
 use Rattle.ckrt_calls.specs.Table as calls
 
 -- the memory's bytes, of which the first has the address 4,096, and the tables; a machine has nothing else

@@ -6,9 +6,8 @@ ghost use Rattle.ckrt_machine.specs.Refusals.{refusal_in, run_refusal, running_r
 use crate::event::Refusal;
 use crate::hart::{RUN_OUTPUT, is_running};
 use arrayvec::ArrayVec;
-use ckrt_calls::{INPUT_LIMIT, Tables};
+use ckrt_calls::{HELD_LIMIT, INPUT_LIMIT, Tables};
 use ckrt_events::Event;
-use ckrt_state::HELD_LIMIT;
 use ckrt_thread::{Hart, MOMENT_END, ThreadId};
 
 /// The first reason to refuse the event where that many bytes of output are held, if there is one.

@@ -3,8 +3,8 @@ ghost use Rattle.std.specs.Prelude.{◌≡◌, ◌≤◌, ◌%◌, ℕ, List, tr
 ghost use Rattle.ckrt_thread.specs.State.{is_live, is_waiting};
 ghost use Rattle.ckrt_thread.specs.declared.records.CallResult.TheVariants.{Done};
 ghost use Rattle.ckrt_rv32i.specs.declared.execution.Outcome.TheVariants.{Fault};
-ghost use Rattle.ckrt_state.specs.declared.table.Status.TheVariants.{Running, Faulted};
-ghost use Rattle.ckrt_state.specs.WellFormed.{IsWellFormed};
+ghost use Rattle.ckrt_calls.specs.declared.table.Status.TheVariants.{Running, Faulted};
+ghost use Rattle.ckrt_calls.specs.WellFormed.{IsWellFormed};
 ghost use Rattle.ckrt_calls.specs.Table as calls;
 ghost use Rattle.ckrt_machine.specs.Steps.{quiet, returned, handled, called, with_result};
 ghost use Rattle.ckrt_machine.specs.Bursts.{ending};

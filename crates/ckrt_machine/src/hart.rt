@@ -3,7 +3,7 @@ ghost use Rattle.std.specs.Prelude.{◌≡◌, ◌<◌, ◌≤◌, ◌-◌, ◌%
 ghost use Rattle.ckrt_thread.specs.State.{is_live, is_ready, is_waiting, placed_on, thread_of};
 ghost use Rattle.ckrt_thread.specs.Cancellation.{cancellation_of, is_immediate};
 ghost use Rattle.ckrt_memory.specs.Marks.{AreWithin, FollowsStores};
-ghost use Rattle.ckrt_state.specs.WellFormed.{IsWellFormed};
+ghost use Rattle.ckrt_calls.specs.WellFormed.{IsWellFormed};
 ghost use Rattle.ckrt_machine.specs.Steps.{hart_of, with_regs};
 ghost use Rattle.ckrt_machine.specs.Runs.{is_running, stop_of, stopped, run_on, with_byte};
 ghost use Rattle.ckrt_machine.specs.Events.{run_of};

@@ -2,7 +2,7 @@
 ghost use Rattle.std.specs.Prelude.{◌≡◌, ◌<◌, ◌≤◌, ◌*◌, ◌-◌, ◌↔◌, [], length, None, Some, IfOk, IsErrOf, MatchResult};
 ghost use Rattle.ckrt_memory.specs.Marks.{Follows, IsAllDirty, IsCleaned, MarksOnly};
 ghost use Rattle.ckrt_memory.specs.declared.MemoryError.TheVariants.{ImageTooLong};
-ghost use Rattle.ckrt_state.specs.WellFormed.{IsWellFormed};
+ghost use Rattle.ckrt_calls.specs.WellFormed.{IsWellFormed};
 ghost use Rattle.ckrt_events.specs.Bytes.{IsInRange};
 ghost use Rattle.ckrt_machine.specs.Events.{fresh, memory_in, step, refusal_of, planned};
 ghost use Rattle.ckrt_machine.specs.Runs.{run_on, stop_of};
@@ -44,7 +44,7 @@ impl Drop for Machine {
 }
 
 impl Model for Machine {
-    ghost use Rattle.ckrt_state.specs.WellFormed.{IsWellFormed};
+    ghost use Rattle.ckrt_calls.specs.WellFormed.{IsWellFormed};
     ghost use Rattle.ckrt_machine.specs.Events.{Machine};
 
     ghost Value = { Machine };
@@ -62,7 +62,7 @@ impl Model for Machine {
 
 impl Machine {
     /// A program that begins: thread 1, ready, with the image at the start of page 1, and idle
-    /// harts. Each page is dirty for both areas. `pages` counts page 0 too, which is never valid: 16 to 65,536; `harts` is 1
+    /// harts. Each page is dirty for all areas. `pages` counts page 0 too, which is never valid: 16 to 65,536; `harts` is 1
     /// to 8.
     pub fn new(alloc: Global, pages: u32, harts: usize, image: &[u8]) -> Result<Self, MemoryError>
         requires pages { (16 ≤ pages) × (pages ≤ 65536) }
@@ -97,7 +97,7 @@ impl Machine {
         }
     }
 
-    /// What holds of every machine: its tables are well-formed, and its memory is below 4 MiB.
+    /// What holds of every machine: its tables are well-formed, and its memory is below 256 MiB.
     pub fn known(&self)
         ensures well_formed { IsWellFormed self.now.state.tables }
         ensures memory { length self.now.state.bytes < 268435456 }

@@ -2,7 +2,7 @@
 ghost use Rattle.std.specs.Prelude.{◌≡◌, ◌<◌, ◌≤◌, List, length, true, false, None, IsSome, IsNone};
 ghost use Rattle.ckrt_thread.specs.State.{is_live, is_waiting};
 ghost use Rattle.ckrt_memory.specs.Marks.{AreWithin, FollowsStores};
-ghost use Rattle.ckrt_state.specs.WellFormed.{IsWellFormed};
+ghost use Rattle.ckrt_calls.specs.WellFormed.{IsWellFormed};
 ghost use Rattle.ckrt_machine.specs.Steps.{hart_of};
 ghost use Rattle.ckrt_machine.specs.Runs.{stop_of};
 ghost use Rattle.ckrt_machine.specs.RunsTo.{meets_on, run_to, stopped_to};

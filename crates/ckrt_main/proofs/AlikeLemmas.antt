@@ -3,7 +3,7 @@ use Rattle.std.proofs.Common.{◌≡◌, ◌⊎◌, ⊎_elim, inl, inr, ℕ, zer
 use Rattle.std.specs.Prelude.{◌==◌, ◌-◌, nat_lt, nat_le, is_none, ⊤}
 use Rattle.std.specs.List.{AllByRecursion}
 use Rattle.std.specs.Str.Lines.{lines}
-use Rattle.ckrt_state.specs.declared.table.Tables.{Tables}
+use Rattle.ckrt_calls.specs.declared.table.Tables.{Tables}
 use Rattle.ckrt_thread.specs.State as threads
 use Rattle.ckrt_events.specs.Bytes.{encoding_of, is_known_in}
 use Rattle.ckrt_events.specs.declared.event.Event.{Event}
@@ -22,12 +22,12 @@ use Rattle.ckrt_recovery.specs.declared.fault.CommitFault.{CommitFault}
 use Rattle.ckrt_recovery.specs.declared.fault.SubmitFault.{SubmitFault}
 use Rattle.ckrt_recovery.specs.declared.fault.SubmitFault.TheVariants as submit_fault
 use Rattle.ckrt_recovery.specs.Calls.{checkpoint_refusal}
-use Rattle.ckrt_commands.specs.Replies.{Reply, Accepted, Acknowledged, NotAccepted, NotSaved, NotUnderstood, Output, outputs, outputs_by}
+use Rattle.ckrt_main.specs.Replies.{Reply, Accepted, Acknowledged, NotAccepted, NotSaved, NotUnderstood, Output, outputs, outputs_by}
 use Rattle.ckrt_stored.specs.Recovery.{room_of, are_counters_used}
 use Rattle.ckrt_recovery.specs.View.{View, output_end, refusal_of, refusal_when_known, refusal_when_running, version_of, first_refusal, shortage_of, after_event, committed, checkpointed, released_output}
-use Rattle.ckrt_commands.specs.Transcript.{Fate, Transcript, preceded_by, unless_quit, followed_by, written, submitted, submit, unless_refused, run_planned, output, acknowledged, commit_by, by_fate, saved, respond, respond_all, transcript}
+use Rattle.ckrt_main.specs.Transcript.{Fate, Transcript, preceded_by, unless_quit, followed_by, written, submitted, submit, unless_refused, run_planned, output, acknowledged, commit_by, by_fate, saved, respond, respond_all, transcript}
 use Rattle.ckrt_main.specs.Alike.{IsAlike, is_output_full, is_own, is_local, NoneIsLocal, answers_of, AnswerAlike}
-use Rattle.ckrt_commands.proofs.ReplyLemmas.{all_front}
+use Rattle.ckrt_main.proofs.ReplyLemmas.{all_front}
 
 all_back : {A : Type 0} (P : A → Type 0) (xs ys : List A) → AllByRecursion P (xs ++ ys) → AllByRecursion P ys
 all_back P [] ys h = h

@@ -14,8 +14,8 @@ use Rattle.ckrt_recovery.specs.declared.fault.CommitFault.{CommitFault}
 use Rattle.ckrt_recovery.specs.declared.fault.SubmitFault.{SubmitFault}
 use Rattle.ckrt_recovery.specs.Calls.{checkpoint_refusal}
 use Rattle.ckrt_recovery.specs.View.{View, refusal_of, checkpointed, committed, confirmed_to}
-use Rattle.ckrt_commands.specs.Replies.{Reply, Acknowledged}
-use Rattle.ckrt_commands.specs.Transcript.{Fate, Transcript, written, preceded_by, unless_quit, followed_by, submitted, submit, unless_refused, run_planned, output, acknowledged, by_fate, commit_by, saved, respond, respond_all, transcript}
+use Rattle.ckrt_main.specs.Replies.{Reply, Acknowledged}
+use Rattle.ckrt_main.specs.Transcript.{Fate, Transcript, written, preceded_by, unless_quit, followed_by, submitted, submit, unless_refused, run_planned, output, acknowledged, by_fate, commit_by, saved, respond, respond_all, transcript}
 
 -- the events of a transcript lead from the session before it to the session after it
 record Leads (v : View) (t : Transcript) : Type 0 where

@@ -3,7 +3,7 @@ use Rattle.std.proofs.Common.{⊎_elim, ◌⊎◌, Bool, true, false, None, refl
 use Rattle.std.specs.Prelude.{OnOk}
 use Rattle.ckrt_disk.specs.Disk.{HasFailed}
 use Rattle.ckrt_disk.specs.declared.disk.Disk.{Ghosts}
-use Rattle.ckrt_checkpoint.specs.declared.config.Config.{Config}
+use Rattle.ckrt_stored.specs.declared.config.Config.{Config}
 use Rattle.ckrt_stored.specs.declared.fault.RecoverFault.{RecoverFault}
 use Rattle.ckrt_stored.specs.declared.fault.RecoverFault.TheVariants.{NotFormatted, Version, Damaged, Device, OutOfMemory}
 use Rattle.ckrt_stored.specs.Reads.{is_device}
@@ -14,7 +14,7 @@ use Rattle.ckrt_stored.specs.Recovery.{AgreesOnFault, Recovered, Recovers}
 use Rattle.ckrt_stored.specs.Programs.{Program, formatted, formatted_program}
 use Rattle.ckrt_stored.proofs.RecoverLemmas.{recovered_once, recovers_once}
 use Rattle.ckrt_recovery.specs.View.{View, view_of, opened, fresh}
-use Rattle.ckrt_commands.specs.Transcript.{transcript, view_after}
+use Rattle.ckrt_main.specs.Transcript.{transcript, view_after}
 use Rattle.ckrt_main.specs.Service.{Processes, Served, ServedPart, Shows}
 use Rattle.ckrt_disk.proofs.WriteLemmas.{Appends-nothing}
 use Rattle.ckrt_main.proofs.ProcessLemmas.{consumes_nothing}

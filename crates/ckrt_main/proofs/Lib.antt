@@ -1,3 +1,16 @@
+pub mod ReplyLemmas
+pub mod EventLemmas
+pub mod FateLemmas
+pub mod TellLemmas
+pub mod TakenLemmas
+pub mod PieceLemmas
+pub mod ResponseLemmas
+pub mod TranscriptLemmas
+pub mod LifePieceLemmas
+pub mod StepLemmas
+pub mod LifeLemmas
+pub mod ManyLemmas
+pub mod ByteLemmas
 pub mod OutputLemmas
 pub mod LineLemmas
 pub mod ProcessLemmas

@@ -9,8 +9,8 @@ use Rattle.std.proofs.lemmas.Bool.Decides.{nat_tests}
 use Rattle.ckrt_events.specs.Line.{command_of}
 use Rattle.ckrt_events.specs.declared.command.LineFault.TheVariants.{TooLong}
 use Rattle.ckrt_recovery.specs.View.{View}
-use Rattle.ckrt_commands.specs.Replies.{Reply, NotUnderstood}
-use Rattle.ckrt_commands.specs.Transcript.{Fate, preceded_by, unless_quit, followed_by, respond, respond_all}
+use Rattle.ckrt_main.specs.Replies.{Reply, NotUnderstood}
+use Rattle.ckrt_main.specs.Transcript.{Fate, preceded_by, unless_quit, followed_by, respond, respond_all}
 use Rattle.ckrt_main.specs.Service.{is_open}
 
 -- the reply to a line that is too long

@@ -1,11 +1,11 @@
 -- Lines of output, one after another; and a reader that gives bytes after bytes.
 use Rattle.std.proofs.Common.{◌≡◌, ℕ, ◌+◌, ◌<◌, List, [], ◌∷◌, ◌++◌, length, take, drop, min, arith, sym, ◌∙◌, ap, subst, append_assoc, append-nil, Option, Some, None}
 use Rattle.std.specs.Io.KnownBytes.{Appends, Consumes}
-use Rattle.ckrt_commands.specs.Pieces.{TellsPart}
-use Rattle.ckrt_commands.specs.Replies.{Reply, Output, line_of, out_line, outputs}
+use Rattle.ckrt_main.specs.Pieces.{TellsPart}
+use Rattle.ckrt_main.specs.Replies.{Reply, Output, line_of, out_line, outputs}
 use Rattle.ckrt_disk.specs.Writing.{AppendsPart}
-use Rattle.ckrt_commands.proofs.ReplyLemmas.{outputs-next}
-use Rattle.ckrt_commands.proofs.TellLemmas.{tells_half, tells_more, tells_one}
+use Rattle.ckrt_main.proofs.ReplyLemmas.{outputs-next}
+use Rattle.ckrt_main.proofs.TellLemmas.{tells_half, tells_more, tells_one}
 use Rattle.ckrt_main.specs.Service.{Writes}
 
 pub Consumes-append : (a b c : Option (List ℕ)) (x y : List ℕ) → Consumes a b x → Consumes b c y → Consumes a c (x ++ y)

@@ -8,18 +8,18 @@ use Rattle.ckrt_disk.specs.declared.disk.Disk.{Ghosts}
 use Rattle.ckrt_events.specs.declared.event.Event.{Event}
 use Rattle.ckrt_events.specs.Line.{command_of}
 use Rattle.ckrt_recovery.specs.declared.session.Session.{Session}
-use Rattle.ckrt_commands.specs.Replies.{Reply, line_of, text_of}
+use Rattle.ckrt_main.specs.Replies.{Reply, line_of, text_of}
 use Rattle.ckrt_recovery.specs.View.{view_of}
-use Rattle.ckrt_commands.specs.Transcript.{Fate, Transcript, transcript, view_after, unless_quit, followed_by, respond, respond_all, output}
+use Rattle.ckrt_main.specs.Transcript.{Fate, Transcript, transcript, view_after, unless_quit, followed_by, respond, respond_all, output}
 use Rattle.ckrt_main.specs.Service.{Writes, rest_of, lines_behind, is_open, Served, Processed, ProcessedPart, ProcessedSoFar, Processes, Completes}
-use Rattle.ckrt_commands.specs.Pieces.{Suits, Responds, Interrupted, Answers, BreaksOff, ends}
+use Rattle.ckrt_main.specs.Pieces.{Suits, Responds, Interrupted, Answers, BreaksOff, ends}
 use Rattle.ckrt_recovery.specs.Accepts.{Accepts}
 use Rattle.ckrt_main.proofs.OutputLemmas.{Consumes-append}
 use Rattle.ckrt_recovery.proofs.AcceptLemmas.{since_start, still_runs}
-use Rattle.ckrt_commands.proofs.FateLemmas.{events_of_fate}
+use Rattle.ckrt_main.proofs.FateLemmas.{events_of_fate}
 use Rattle.ckrt_main.proofs.LineLemmas.{respond-newline, respond-last, respond-full, nothing_more}
-use Rattle.ckrt_commands.proofs.TellLemmas.{told_whole}
-use Rattle.ckrt_commands.proofs.PieceLemmas.{responds_then, interrupted_then, responds_as, interrupted_as, silent, answers_followed, broken_followed}
+use Rattle.ckrt_main.proofs.TellLemmas.{told_whole}
+use Rattle.ckrt_main.proofs.PieceLemmas.{responds_then, interrupted_then, responds_as, interrupted_as, silent, answers_followed, broken_followed}
 use Rattle.ckrt_disk.proofs.ListLemmas.{begins_through}
 
 pub consumes_nothing : (r : Option (List ℕ)) → Consumes r r []

@@ -7,14 +7,14 @@ use Rattle.ckrt_events.specs.declared.event.Event.{Event}
 use Rattle.ckrt_stored.specs.Programs.{Program}
 use Rattle.ckrt_recovery.specs.declared.session.Session.{Session}
 use Rattle.ckrt_recovery.specs.Between.{RecoversBetween, StandsIn}
-use Rattle.ckrt_commands.specs.Replies.{acks_of}
+use Rattle.ckrt_main.specs.Replies.{acks_of}
 use Rattle.ckrt_recovery.specs.Represents.{Represents, acknowledged_of}
 use Rattle.ckrt_recovery.specs.View.{view_of}
 use Rattle.ckrt_main.specs.Told.{AcksAreDurable, LinesAgree}
 use Rattle.ckrt_main.specs.Alike.{IsAlike}
 use Rattle.ckrt_recovery.proofs.AcceptLemmas.{between_more, since_start}
 use Rattle.ckrt_disk.proofs.ListLemmas.{begins_itself, fewer_begin}
-use Rattle.ckrt_commands.proofs.ReplyLemmas.{all_weaker}
+use Rattle.ckrt_main.proofs.ReplyLemmas.{all_weaker}
 
 module _ {D : Type 0} {g : Ghosts D} where
   pub acks_durable : (law : (disk : D) (image : List ℕ) → g.is_honest disk → g.left_since disk (g.moment disk) image → IsImage (g.content disk) (g.pending disk) image)

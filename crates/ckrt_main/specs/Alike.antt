@@ -5,8 +5,8 @@ use Rattle.ckrt_machine.specs.declared.event.Refusal.{Refusal}
 use Rattle.ckrt_machine.specs.declared.event.Refusal.TheVariants.{Ended, NoSuchHart, NoSuchThread, NotReady, HartIdle, InputClosed, InputFull, ClockEnd, OutputFull}
 use Rattle.ckrt_recovery.specs.declared.fault.SubmitFault.{SubmitFault}
 use Rattle.ckrt_recovery.specs.declared.fault.SubmitFault.TheVariants.{Failed, NeedsCheckpoint, Refused, BatchFull, JournalFull, CountersUsed}
-use Rattle.ckrt_commands.specs.Replies.{Reply, Accepted, Acknowledged, NotAccepted, NotSaved, NotUnderstood, Output}
-use Rattle.ckrt_commands.specs.Transcript.{Transcript}
+use Rattle.ckrt_main.specs.Replies.{Reply, Accepted, Acknowledged, NotAccepted, NotSaved, NotUnderstood, Output}
+use Rattle.ckrt_main.specs.Transcript.{Transcript}
 use Rattle.ckrt_recovery.specs.View.{View}
 
 -- the same state of the machine after as many events, whatever is pending, held or confirmed

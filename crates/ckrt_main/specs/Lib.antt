@@ -1,3 +1,10 @@
+pub mod Replies
+pub mod Transcript
+pub mod Outputs
+pub mod Pieces
+pub mod Commands
+pub mod LifePieces
+pub mod Lives
 pub mod Service
 pub mod Alike
 pub mod Told

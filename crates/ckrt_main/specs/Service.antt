@@ -12,12 +12,12 @@ use Rattle.ckrt_stored.specs.Programs.{Program}
 use Rattle.ckrt_recovery.specs.Between.{RecoversBetween}
 use Rattle.ckrt_disk.specs.Lists.{IsBeginningOf}
 use Rattle.ckrt_recovery.specs.Accepts.{Accepts}
-use Rattle.ckrt_commands.specs.Outputs.{AreOutput}
-use Rattle.ckrt_commands.specs.Pieces.{Tells, Responds, Interrupted}
-use Rattle.ckrt_commands.specs.Replies.{Reply, line_of, text_of, oks_of, acks_of, shown_up_to}
+use Rattle.ckrt_main.specs.Outputs.{AreOutput}
+use Rattle.ckrt_main.specs.Pieces.{Tells, Responds, Interrupted}
+use Rattle.ckrt_main.specs.Replies.{Reply, line_of, text_of, oks_of, acks_of, shown_up_to}
 use Rattle.ckrt_recovery.specs.Represents.{Represents, acknowledged_of}
 use Rattle.ckrt_recovery.specs.View.{View, view_of}
-use Rattle.ckrt_commands.specs.Transcript.{Fate, Transcript, transcript, reply, accepted_events, unless_quit, respond_all}
+use Rattle.ckrt_main.specs.Transcript.{Fate, Transcript, transcript, reply, accepted_events, unless_quit, respond_all}
 
 -- WHERE NO DEVICE FAILS
 

@@ -6,11 +6,11 @@ use Rattle.ckrt_events.specs.declared.event.Event.{Event}
 use Rattle.ckrt_stored.specs.Programs.{Program}
 use Rattle.ckrt_recovery.specs.declared.session.Session.{Session}
 use Rattle.ckrt_recovery.specs.Between.{RecoversBetween, StandsIn}
-use Rattle.ckrt_commands.specs.Replies.{acks_of}
+use Rattle.ckrt_main.specs.Replies.{acks_of}
 use Rattle.ckrt_recovery.specs.Represents.{Represents}
 use Rattle.ckrt_main.specs.Service.{Processes}
 use Rattle.ckrt_recovery.specs.Accepts.{Accepts}
-use Rattle.ckrt_commands.specs.Outputs.{AreOutput}
+use Rattle.ckrt_main.specs.Outputs.{AreOutput}
 
 -- For each `ack K` that a service wrote, whatever it answered: every image that a stop leaves after the service has ended, while the
 -- session goes on as far as `later`, recovers to a list that begins with the first K of the events represented and accepted.

@@ -1,6 +1,6 @@
 //! The service of a new machine in memory.
 ghost use Rattle.std.specs.Prelude.{◌≡◌, ◌↔◌, ◌⊎◌, true, false, replicate, Ok, IfOk, IfErr, OnOk, IsErrOf};
-ghost use Rattle.ckrt_checkpoint.specs.Layout.{is_valid, size_needed};
+ghost use Rattle.ckrt_stored.specs.Layout.{is_valid, size_needed};
 ghost use Rattle.ckrt_stored.specs.Format.{IsFormatted};
 ghost use Rattle.ckrt_recovery.specs.View.{view_of, fresh, is_refused};
 ghost use Rattle.ckrt_main.specs.Service.{IsStartFault, Served, ServedPart};

@@ -6,7 +6,7 @@ ghost use Rattle.ckrt_machine.specs.Events.{fold, output_of};
 ghost use Rattle.ckrt_machine.specs.Steps.{State};
 ghost use Rattle.ckrt_recovery.specs.Represents.{Represents};
 ghost use Rattle.ckrt_recovery.specs.View.{View, view_of};
-ghost use Rattle.ckrt_commands.specs.Transcript.{Fate, transcript};
+ghost use Rattle.ckrt_main.specs.Transcript.{Fate, transcript};
 ghost use Rattle.ckrt_main.specs.Alike.{AnswerAlike, IsAlike, NoneIsLocal};
 ghost use Rattle.ckrt_main.specs.Told.{AcksAreDurable, LinesAgree, OutsAreOutput};
 

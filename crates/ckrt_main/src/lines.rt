@@ -1,11 +1,11 @@
 //! The lines that a writer is told of commands.
 ghost use Rattle.std.specs.Prelude.{◌≡◌, ◌+◌, ◌<◌, ◌^◌, [], length, OnErr, OnOk};
-ghost use Rattle.ckrt_commands.specs.Pieces.{TellsPart};
-ghost use Rattle.ckrt_commands.specs.Replies.{line_of, outputs};
+ghost use Rattle.ckrt_main.specs.Pieces.{TellsPart};
+ghost use Rattle.ckrt_main.specs.Replies.{line_of, outputs};
 ghost use Rattle.ckrt_main.specs.Service.{Writes};
 
+use crate::listener::Listener;
 use crate::replies::{self, OUTPUT_BYTES};
-use ckrt_commands::Listener;
 use ckrt_disk::{WriteFault, write_text};
 use ckrt_machine::Answer;
 use ckrt_recovery::{CommitFault, SubmitFault};

@@ -2,7 +2,7 @@
 ghost use Rattle.std.specs.Prelude.{◌≡◌, ◌≤◌, ◌+◌, ◌*◌, ◌++◌, [], length, decimal, codes};
 ghost use Rattle.arrayvec.specs.ArrayVec.{array_vec_len};
 ghost use Rattle.hex.specs.Hex.{encode_lower};
-ghost use Rattle.ckrt_commands.specs.Replies.{ok_line, ack_line, out_line, submit_fault_text, commit_fault_text, answer_text, run_end_text};
+ghost use Rattle.ckrt_main.specs.Replies.{ok_line, ack_line, out_line, submit_fault_text, commit_fault_text, answer_text, run_end_text};
 ghost use Rattle.ckrt_events.specs.Refusals.{no_line, line_fault_text};
 
 use arrayvec::ArrayVec;

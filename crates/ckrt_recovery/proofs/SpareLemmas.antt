@@ -5,9 +5,9 @@ use Rattle.ckrt_disk.specs.Frame.{IsSameOutside, WritesWithin}
 use Rattle.ckrt_disk.specs.declared.disk.Disk.{Ghosts}
 use Rattle.ckrt_disk.proofs.Images.{wider_image}
 use Rattle.ckrt_disk.proofs.Moments.{weaker}
-use Rattle.ckrt_checkpoint.specs.declared.config.Config.{Config}
-use Rattle.ckrt_checkpoint.specs.Layout.{journal_at}
-use Rattle.ckrt_checkpoint.proofs.SlotLemmas.{journal_stand}
+use Rattle.ckrt_stored.specs.declared.config.Config.{Config}
+use Rattle.ckrt_stored.specs.Layout.{journal_at}
+use Rattle.ckrt_stored.proofs.SlotLemmas.{journal_stand}
 use Rattle.ckrt_events.specs.declared.event.Event.{Event}
 use Rattle.ckrt_events.specs.Bytes.{encodings_of}
 use Rattle.ckrt_machine.specs.Events.{memory_in}

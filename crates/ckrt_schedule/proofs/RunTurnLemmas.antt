@@ -8,7 +8,7 @@ use Rattle.std.proofs.Math.Nat.{add-mul, div-add-mod', mod-eq_of_lt, mod-lt, mul
 use Rattle.ckrt_thread.specs.State as threads
 use Rattle.ckrt_thread.proofs.Known.{live_range, ready_live}
 use Rattle.ckrt_thread.proofs.SlotLemmas.{slot_at}
-use Rattle.ckrt_state.specs.declared.table.Tables.{Tables}
+use Rattle.ckrt_calls.specs.declared.table.Tables.{Tables}
 use Rattle.ckrt_events.specs.Bytes.{RUN_LIMIT}
 use Rattle.ckrt_events.specs.declared.event.Event.{Event}
 use Rattle.ckrt_events.specs.declared.event.Event.TheVariants.{Place, Run, Tick, RunLong}

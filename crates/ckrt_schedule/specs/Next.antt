@@ -1,7 +1,7 @@
 -- What a program is given next of its input, which is the bytes of a file (this project's choice).
 use Rattle.std.specs.Prelude.{◌≡◌, ◌≤◌, ◌+◌, ◌==◌, ◌&&◌, not, nat_le, ℕ, Bool, if◌then◌else◌, List, [], ◌∷◌, ◌++◌, length, take, drop, Option, Some, None}
-use Rattle.ckrt_state.specs.declared.table.Tables.{Tables}
-use Rattle.ckrt_state.specs.WellFormed.{INPUT_LIMIT}
+use Rattle.ckrt_calls.specs.declared.table.Tables.{Tables}
+use Rattle.ckrt_calls.specs.WellFormed.{INPUT_LIMIT}
 use Rattle.ckrt_events.specs.Bytes.{IsInRange}
 use Rattle.ckrt_events.specs.declared.event.Event.{Event}
 use Rattle.ckrt_events.specs.declared.event.Event.TheVariants.{Place, Run, Input, Eof, Tick, RunLong}

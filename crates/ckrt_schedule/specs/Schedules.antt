@@ -5,7 +5,7 @@ use Rattle.ckrt_thread.specs.declared.records.Wait.{Wait}
 use Rattle.ckrt_thread.specs.declared.records.Object.TheVariants.{Input}
 use Rattle.ckrt_thread.specs.State as threads
 use Rattle.ckrt_thread.specs.State.{first_waiter, is_ready}
-use Rattle.ckrt_state.specs.declared.table.Tables.{Tables}
+use Rattle.ckrt_calls.specs.declared.table.Tables.{Tables}
 use Rattle.ckrt_events.specs.Bytes.{IsInRange, RUN_LIMIT}
 use Rattle.ckrt_events.specs.declared.event.Event.{Event}
 use Rattle.ckrt_events.specs.declared.event.Event.TheVariants.{Place, Run, Tick, RunLong}

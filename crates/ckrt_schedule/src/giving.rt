@@ -3,8 +3,8 @@ ghost use Rattle.std.specs.Prelude.{◌≡◌, ◌≤◌, length};
 ghost use Rattle.ckrt_schedule.specs.Next.{given_by, has_room, next_input};
 
 use arrayvec::ArrayVec;
+use ckrt_calls::{INPUT_LIMIT, Status, Tables};
 use ckrt_events::Event;
-use ckrt_state::{INPUT_LIMIT, Status, Tables};
 
 /// How many bytes are given at once, at most.
 pub const PIECE: usize = 64;

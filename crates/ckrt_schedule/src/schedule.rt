@@ -10,9 +10,9 @@ ghost use Rattle.ckrt_schedule.specs.Schedules.{IsInRangeNext, chosen, earliest_
 
 use crate::lot::lot_of;
 use crate::next::{Next, ScheduleEnd};
+use ckrt_calls::{Status, Tables};
 use ckrt_events::{Event, LONG_RUN_LIMIT, RUN_LIMIT};
 use ckrt_machine::Machine;
-use ckrt_state::{Status, Tables};
 use ckrt_thread::{Hart, MAX_THREADS, Object, ThreadId, Threads, Wait};
 
 /// By what events are chosen.

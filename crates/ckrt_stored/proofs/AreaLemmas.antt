@@ -1,13 +1,13 @@
 -- Which area is in use: what is known of it, and what makes it so.
 use Rattle.std.proofs.Common.{◌≡◌, ◌⊎◌, inl, inr, ⊎_elim, ℕ, ◌-◌, ◌<◌, ◌&&◌, ◌||◌, not, Bool, true, false, cond, nat_eq, nat_lt, List, Result, Ok, Err, refl, sym, ◌∙◌, ap, subst, arith}
 use Rattle.std.proofs.lemmas.Bool.Decides.{nat_tests}
-use Rattle.ckrt_checkpoint.specs.declared.area.Area.{Area}
-use Rattle.ckrt_checkpoint.specs.declared.config.Config.{Config}
-use Rattle.ckrt_checkpoint.specs.declared.fault.AreaFault.{AreaFault}
-use Rattle.ckrt_checkpoint.specs.declared.fault.AreaFault.TheVariants.{Version, Damaged}
-use Rattle.ckrt_checkpoint.specs.declared.header.Header.{Header}
-use Rattle.ckrt_checkpoint.specs.Areas.{area_of, checked_area, is_in_range, is_known_version, newest_area}
-use Rattle.ckrt_checkpoint.specs.Layout.{header_of}
+use Rattle.ckrt_stored.specs.declared.area.Area.{Area}
+use Rattle.ckrt_stored.specs.declared.config.Config.{Config}
+use Rattle.ckrt_stored.specs.declared.area_fault.AreaFault.{AreaFault}
+use Rattle.ckrt_stored.specs.declared.area_fault.AreaFault.TheVariants.{Version, Damaged}
+use Rattle.ckrt_stored.specs.declared.header.Header.{Header}
+use Rattle.ckrt_stored.specs.Areas.{area_of, checked_area, is_in_range, is_known_version, newest_area}
+use Rattle.ckrt_stored.specs.Layout.{header_of}
 
 -- THE TWO AREAS
 

@@ -10,7 +10,7 @@ use Rattle.ckrt_disk.specs.declared.disk.Disk.{Ghosts}
 use Rattle.ckrt_disk.proofs.FrameLemmas.{byte_left, failed_within, wider, writes_on_within}
 use Rattle.ckrt_disk.proofs.Images.{get_part, written_there}
 use Rattle.ckrt_disk.proofs.Moments.{goes_on, weaker}
-use Rattle.ckrt_checkpoint.specs.Layout.{is_open}
+use Rattle.ckrt_stored.specs.Layout.{is_open}
 use Rattle.ckrt_stored.specs.Filling.{IsBegun, block, filled_byte, making_front}
 
 pub zeros_front : (count n k : ℕ) → get_or {A = ℕ} (take count (replicate n 0)) k 0 ≡ 0

@@ -13,14 +13,14 @@ use Rattle.ckrt_disk.specs.declared.disk.Disk.{Ghosts}
 use Rattle.ckrt_disk.proofs.FrameLemmas.{wider, writes_on_within, byte_left}
 use Rattle.ckrt_disk.proofs.Moments.{weaker, goes_on}
 use Rattle.ckrt_disk.proofs.Images.{part_same, wider_image, written_size, written_there, written_image}
-use Rattle.ckrt_state.specs.Beginnings as beginnings
+use Rattle.ckrt_calls.specs.Beginnings as beginnings
 use Rattle.ckrt_tables.specs.Fresh.{fresh_bytes, IsFreshEncoding}
 use Rattle.ckrt_tables.proofs.AllFit.{fresh_savable}
-use Rattle.ckrt_checkpoint.specs.declared.config.Config.{Config}
-use Rattle.ckrt_checkpoint.specs.Fields.{HasBytes, header_fields}
-use Rattle.ckrt_checkpoint.specs.Layout.{is_valid, is_open, memory_size, size_needed, area_at, tables_at, memory_at, journal_at, number_at}
-use Rattle.ckrt_checkpoint.proofs.ByteLemmas.{stays, number_is, byte_is}
-use Rattle.ckrt_checkpoint.proofs.HoldLemmas.{header_gate, header_stands}
+use Rattle.ckrt_stored.specs.declared.config.Config.{Config}
+use Rattle.ckrt_stored.specs.AreaFields.{HasBytes, header_fields}
+use Rattle.ckrt_stored.specs.Layout.{is_valid, is_open, memory_size, size_needed, area_at, tables_at, memory_at, journal_at, number_at}
+use Rattle.ckrt_stored.proofs.ByteLemmas.{stays, number_is, byte_is}
+use Rattle.ckrt_stored.proofs.HoldLemmas.{header_gate, header_stands}
 use Rattle.ckrt_stored.specs.declared.fault.RecoverFault.TheVariants.{NotFormatted, Damaged}
 use Rattle.ckrt_stored.specs.declared.fault.RecoverFault.{RecoverFault}
 use Rattle.ckrt_stored.specs.Superblock.{MAGIC, config_within, note_for, note_in, note_of, superblock_fields, superblock_in, superblock_of}

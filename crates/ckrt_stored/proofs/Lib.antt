@@ -1,3 +1,9 @@
+pub mod PickLemmas
+pub mod ByteLemmas
+pub mod WriteLemmas
+pub mod SavePointLemmas
+pub mod HoldLemmas
+pub mod SlotLemmas
 pub mod AreaLemmas
 pub mod RecoverLemmas
 pub mod ReplayLemmas
@@ -12,3 +18,4 @@ mod NoteLemmas
 mod FillLemmas
 pub mod EmptyingLemmas
 pub mod RowLemmas
+mod CopyLemmas

@@ -1,9 +1,9 @@
 -- What keeps the clean pages of a program's memory in their slots.
 use Rattle.std.proofs.Common.{◌≡◌, List, ℕ, sym, subst}
 use Rattle.ckrt_memory.specs.Marks.{Follows}
-use Rattle.ckrt_checkpoint.specs.declared.config.Config.{Config}
-use Rattle.ckrt_checkpoint.specs.Holds.{BothStand}
-use Rattle.ckrt_checkpoint.proofs.SlotLemmas.{follows_stand}
+use Rattle.ckrt_stored.specs.declared.config.Config.{Config}
+use Rattle.ckrt_stored.specs.Holds.{BothStand}
+use Rattle.ckrt_stored.proofs.SlotLemmas.{follows_stand}
 use Rattle.ckrt_machine.specs.Events.{memory_in}
 use Rattle.ckrt_stored.specs.declared.progress.Progress.{Progress}
 use Rattle.ckrt_stored.specs.Progress.{PagesStand}

@@ -9,17 +9,17 @@ use Rattle.ckrt_disk.proofs.Images.{wider_image}
 use Rattle.ckrt_tables.specs.Decoding.{Saved}
 use Rattle.ckrt_tables.specs.Encoding.{encoding_of}
 use Rattle.ckrt_tables.specs.Savable.{CanBeSaved}
-use Rattle.ckrt_checkpoint.specs.declared.area.Area.{Area}
-use Rattle.ckrt_checkpoint.specs.declared.config.Config.{Config}
-use Rattle.ckrt_checkpoint.specs.declared.header.Header.{Header}
-use Rattle.ckrt_checkpoint.specs.Areas.{checked_area, is_in_range}
-use Rattle.ckrt_checkpoint.specs.Layout.{area_at, header_of, is_gate_open}
-use Rattle.ckrt_checkpoint.specs.Write.{HasSaved, IsClosing, IsFilling, IsSaving, WritesAt, next_header}
-use Rattle.ckrt_checkpoint.specs.declared.save_point.SavePoint.{SavePoint}
-use Rattle.ckrt_checkpoint.proofs.SlotLemmas.{written_stand}
+use Rattle.ckrt_stored.specs.declared.area.Area.{Area}
+use Rattle.ckrt_stored.specs.declared.config.Config.{Config}
+use Rattle.ckrt_stored.specs.declared.header.Header.{Header}
+use Rattle.ckrt_stored.specs.Areas.{checked_area, is_in_range}
+use Rattle.ckrt_stored.specs.Layout.{area_at, header_of, is_gate_open}
+use Rattle.ckrt_stored.specs.Write.{HasSaved, IsClosing, IsFilling, IsSaving, WritesAt, next_header}
+use Rattle.ckrt_stored.specs.declared.save_point.SavePoint.{SavePoint}
+use Rattle.ckrt_stored.proofs.SlotLemmas.{written_stand}
 use Rattle.ckrt_memory.specs.Marks.{Memory}
 use Rattle.ckrt_machine.specs.Events.{memory_in}
-use Rattle.ckrt_checkpoint.proofs.HoldLemmas.{AreFieldsFit, closed_journal, header_gate, holds_header, holds_memory, holds_tables}
+use Rattle.ckrt_stored.proofs.HoldLemmas.{AreFieldsFit, closed_journal, header_gate, holds_header, holds_memory, holds_tables}
 use Rattle.ckrt_stored.specs.declared.progress.Progress.{Progress}
 use Rattle.ckrt_stored.specs.Frame.{BelongsTo, HoldsState, IsNewest, in_other_area}
 use Rattle.ckrt_stored.specs.Progress.{ArePagesSaved, IsBehind, PagesStand, RecoversToOldOrNew, recovered_of, save_point_of}

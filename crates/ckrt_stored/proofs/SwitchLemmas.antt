@@ -4,7 +4,7 @@ use Rattle.std.proofs.lemmas.Bool.{cases_lt}
 use Rattle.byteorder.specs.Endian.{little_number}
 use Rattle.ckrt_journal.specs.Chain.{batches_of, batch_of_length, found_then, journal_bytes}
 use Rattle.ckrt_journal.proofs.ChainLemmas.{chain_more}
-use Rattle.ckrt_checkpoint.specs.Layout.{is_open, journal_of, memory_of}
+use Rattle.ckrt_stored.specs.Layout.{is_open, journal_of, memory_of}
 use Rattle.ckrt_stored.specs.Frame.{IsSwitched}
 use Rattle.ckrt_stored.specs.Recovery.{Recovered, Recovers, replayed_batches, replayed_journal, unreplayed}
 use Rattle.ckrt_stored.proofs.AreaLemmas.{picked_newest}

@@ -3,10 +3,10 @@ use Rattle.std.specs.Prelude.{◌≡◌, ◌+◌, ◌-◌, ℕ, true, List, [], 
 use Rattle.ckrt_journal.specs.Chain.{CLOSED, OPEN}
 use Rattle.ckrt_tables.specs.Fresh.{fresh_bytes}
 use Rattle.ckrt_tables.specs.Encoding.{AREA_VERSION}
-use Rattle.ckrt_checkpoint.specs.declared.config.Config.{Config}
-use Rattle.ckrt_checkpoint.specs.declared.header.Header.{Header}
-use Rattle.ckrt_checkpoint.specs.Fields.{HasBytes, header_fields}
-use Rattle.ckrt_checkpoint.specs.Layout.{memory_size, area_at, tables_at, memory_at, journal_at}
+use Rattle.ckrt_stored.specs.declared.config.Config.{Config}
+use Rattle.ckrt_stored.specs.declared.header.Header.{Header}
+use Rattle.ckrt_stored.specs.AreaFields.{HasBytes, header_fields}
+use Rattle.ckrt_stored.specs.Layout.{memory_size, area_at, tables_at, memory_at, journal_at}
 use Rattle.ckrt_stored.specs.Superblock.{superblock_fields}
 
 -- how many bytes the saved tables of a program have before its first event

@@ -2,7 +2,7 @@
 use Rattle.std.specs.Prelude.{◌≡◌, ◌⊎◌, ◌<◌, ◌≤◌, ◌-◌, ◌++◌, ℕ, false, List, length, replicate, codes, slice_index, Result, is_err}
 use Rattle.ckrt_disk.specs.Frame.{IsSameOutside, MayBeLeft, WritesWithin}
 use Rattle.ckrt_disk.specs.declared.disk.Disk.{Ghosts}
-use Rattle.ckrt_checkpoint.specs.Layout.{is_open}
+use Rattle.ckrt_stored.specs.Layout.{is_open}
 
 -- the bytes of the first block, which has the gate of a disk
 abbrev pub block : ℕ

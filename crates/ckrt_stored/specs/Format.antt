@@ -3,11 +3,11 @@ use Rattle.std.specs.Prelude.{◌≡◌, ◌+◌, ◌≤◌, ◌<◌, ◌⊎◌,
 use Rattle.ckrt_disk.specs.Disk.{IsWithin}
 use Rattle.ckrt_disk.specs.Frame.{AtAnyMoment, MayBeLeft, WritesWithin}
 use Rattle.ckrt_disk.specs.declared.disk.Disk.{Ghosts}
-use Rattle.ckrt_checkpoint.specs.declared.config.Config.{Config}
+use Rattle.ckrt_stored.specs.declared.config.Config.{Config}
 use Rattle.ckrt_stored.specs.declared.fault.FormatFault.{FormatFault}
 use Rattle.ckrt_stored.specs.declared.fault.FormatFault.TheVariants.{AlreadyFormatted, TooSmall, BadConfig, ImageTooLong, Device, OutOfMemory}
 use Rattle.ckrt_stored.specs.declared.fault.RecoverFault.TheVariants.{NotFormatted}
-use Rattle.ckrt_checkpoint.specs.Layout.{is_valid, memory_size, size_needed, journal_at, is_open}
+use Rattle.ckrt_stored.specs.Layout.{is_valid, memory_size, size_needed, journal_at, is_open}
 use Rattle.ckrt_stored.specs.Recovery.{Recovers}
 use Rattle.ckrt_stored.specs.Programs.{RecoversToStart, formatted_program}
 use Rattle.ckrt_stored.specs.Superblock.{note_for, note_of}

@@ -6,10 +6,10 @@ use Rattle.ckrt_journal.specs.Chain.{journal_bytes}
 use Rattle.ckrt_tables.specs.Decoding.{Saved}
 use Rattle.ckrt_tables.specs.Encoding.{AREA_VERSION, encoding_of}
 use Rattle.ckrt_tables.specs.Savable.{CanBeSaved}
-use Rattle.ckrt_checkpoint.specs.declared.area.Area.{Area}
-use Rattle.ckrt_checkpoint.specs.declared.config.Config.{Config}
-use Rattle.ckrt_checkpoint.specs.Areas.{checked_area}
-use Rattle.ckrt_checkpoint.specs.Layout.{area_at, area_size, header_of, is_open, journal_at, journal_of, memory_of, size_needed, tables_of}
+use Rattle.ckrt_stored.specs.declared.area.Area.{Area}
+use Rattle.ckrt_stored.specs.declared.config.Config.{Config}
+use Rattle.ckrt_stored.specs.Areas.{checked_area}
+use Rattle.ckrt_stored.specs.Layout.{area_at, area_size, header_of, is_open, journal_at, journal_of, memory_of, size_needed, tables_of}
 use Rattle.ckrt_stored.specs.Superblock.{note_of, superblock_of}
 use Rattle.ckrt_stored.specs.Recovery.{Recovered, Recovers, is_end_in_range, unreplayed}
 

@@ -1,3 +1,10 @@
+pub mod Layout
+pub mod AreaFields
+pub mod Areas
+pub mod Answers
+pub mod Holds
+pub mod Write
+pub mod Read
 pub mod Superblock
 pub mod Recovery
 pub mod Frame

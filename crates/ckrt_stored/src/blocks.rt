@@ -1,14 +1,17 @@
 //! The superblock, from its bytes and as bytes.
 ghost use Rattle.std.specs.Prelude.{◌≡◌, ◌≢◌, Err, ◌≤◌, length, IfOk, true};
 ghost use Rattle.ckrt_stored.specs.declared.fault.RecoverFault.TheVariants.{Device, OutOfMemory};
-ghost use Rattle.ckrt_checkpoint.specs.Layout.{is_valid, size_needed};
+ghost use Rattle.ckrt_stored.specs.Layout.{is_valid, size_needed};
 ghost use Rattle.ckrt_stored.specs.Superblock.{config_within, note_in, superblock_in, superblock_fields};
 ghost use Rattle.ckrt_stored.specs.Recovery.{Agrees, Is};
 
+use crate::config::Config;
 use crate::fault::RecoverFault;
+use crate::fields::{number_32, number_64, put};
+use crate::layout::{FIELDS_AT, SUPERBLOCK_VERSION};
 use crate::note::{ProgramNote, note_for};
 use arrayvec::ArrayVec;
-use ckrt_checkpoint::{Config, FIELDS_AT, OPEN, SUPERBLOCK_VERSION, number_32, number_64, put};
+use ckrt_journal::OPEN;
 
 /// How many bytes of a superblock are read.
 pub(crate) const SUPERBLOCK_BYTES: usize = 32;

@@ -1,7 +1,7 @@
 //! The faults of formatting and of recovery.
 ghost use Rattle.std.specs.Prelude.{◌≡◌};
 
-use ckrt_checkpoint::AreaFault;
+use crate::area_fault::AreaFault;
 use ckrt_disk::DeviceFault;
 use ckrt_journal::JournalFault;
 use std::alloc::AllocError;

@@ -2,11 +2,11 @@
 ghost use Rattle.std.specs.Prelude.{◌≡◌, ◌≤◌, ◌<◌, ◌+◌, ℕ, ⊤, false, length, is_err, slice_index, IfOk, OnOk};
 ghost use Rattle.ckrt_disk.specs.Disk.{IsWithin};
 ghost use Rattle.ckrt_disk.specs.Frame.{AtAnyMoment, IsOnlyRead, MayBeLeft, Nowhere, WritesWithin};
-ghost use Rattle.ckrt_checkpoint.specs.Layout.{is_open};
+ghost use Rattle.ckrt_stored.specs.Layout.{is_open};
 ghost use Rattle.ckrt_stored.specs.Filling.{FillsAt, IsBegun, IsClosed, IsFilled, IsZeroFrom, WritesOnly, block, filled_byte, smallest_disk};
 
-use ckrt_checkpoint::OPEN;
 use ckrt_disk::{DeviceFault, Disk, write_part, write_synced};
+use ckrt_journal::OPEN;
 
 /// The bytes of the smallest disk, of 16 pages and journals of 4,096 bytes.
 pub const SMALLEST_DISK: usize = 348_160;

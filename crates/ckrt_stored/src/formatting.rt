@@ -3,15 +3,19 @@
 ghost use Rattle.std.specs.Prelude.{◌≡◌, ◌≤◌, ◌+◌, ℕ, true, Some, None, length, is_err, IfOk, IfErr, OnOk};
 ghost use Rattle.ckrt_disk.specs.Frame.{Nowhere, WritesWithin};
 ghost use Rattle.ckrt_stored.specs.declared.fault.FormatFault.TheVariants.{AlreadyFormatted, Device, OutOfMemory};
-ghost use Rattle.ckrt_checkpoint.specs.Layout.{is_valid, is_open, memory_size, size_needed};
+ghost use Rattle.ckrt_stored.specs.Layout.{is_valid, is_open, memory_size, size_needed};
 ghost use Rattle.ckrt_stored.specs.Fields.{BecomesFresh, HasFreshArea, IsFresh, fresh_memory};
 ghost use Rattle.ckrt_stored.specs.Format.{format_refusal, ComesBeforeCalls, FormatsBehindGate, FormatsDisk, IsFormatWrite, IsRefusedBy, LeavesFormatting, StaysIfFormatted, TellsFormatted};
 
 use crate::blocks::superblock_fields;
+use crate::config::Config;
 use crate::fault::FormatFault;
+use crate::fields::header_fields;
 use crate::fresh::{FRESH_TABLES_SIZE, fresh_tables};
-use ckrt_checkpoint::{CLOSED, Config, FIELDS_AT, Header, OPEN, header_fields};
+use crate::header::Header;
+use crate::layout::FIELDS_AT;
 use ckrt_disk::{DeviceFault, Disk, write_part, write_synced};
+use ckrt_journal::{CLOSED, OPEN};
 use ckrt_tables::AREA_VERSION;
 use std::alloc::{AllocError, Global};
 

@@ -1,10 +1,11 @@
 //! The saved tables of a program that hasn't begun.
 ghost use Rattle.std.specs.Prelude.{◌≡◌, true};
-ghost use Rattle.ckrt_checkpoint.specs.Layout.{is_valid};
+ghost use Rattle.ckrt_stored.specs.Layout.{is_valid};
 ghost use Rattle.ckrt_tables.specs.Fresh.{fresh_bytes};
 
+use crate::config::Config;
+use crate::fields::put;
 use arrayvec::ArrayVec;
-use ckrt_checkpoint::{Config, put};
 
 /// How many bytes the tables of a program have that hasn't begun.
 pub(crate) const FRESH_TABLES_SIZE: usize = 176;

@@ -2,9 +2,9 @@
 ghost use Rattle.std.specs.Prelude.{◌≡◌, []};
 
 use ckrt_barrier::Barriers;
+use ckrt_calls::InputQueue;
 use ckrt_mutex::Mutexes;
 use ckrt_rwlock::RwLocks;
-use ckrt_state::InputQueue;
 
 /// The same mutexes.
 pub fn copied_mutexes(kept: &Mutexes) -> Mutexes

@@ -3,7 +3,7 @@ ghost use Rattle.std.specs.Prelude.{◌≡◌};
 
 use crate::objects::{copied_barriers, copied_mutexes, copied_rwlocks, restore_input};
 use crate::threads::restore_threads;
-use ckrt_state::Tables;
+use ckrt_calls::Tables;
 
 /// The tables become those of another state of a program with as many harts. It takes no memory.
 pub fn restore_tables(tables: &mut Tables, kept: &Tables)

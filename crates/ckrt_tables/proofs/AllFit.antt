@@ -11,8 +11,8 @@ use Rattle.ckrt_thread.specs.Abi.{RA, SP, PROGRAM_START, RETURN_GATE}
 use Rattle.ckrt_thread.specs.State.{State, IsWellFormed, holds, is_live, is_on_hart, is_proper_slot, first_of_program}
 use Rattle.ckrt_thread.proofs.Counting.{count_of_some}
 use Rattle.ckrt_thread.proofs.Known.{live_range}
-use Rattle.ckrt_state.specs.Beginnings.{fresh, with_keys_off}
-use Rattle.ckrt_state.proofs.Beginnings.{well_formed_fresh, well_formed_keys_off}
+use Rattle.ckrt_calls.specs.Beginnings.{fresh, with_keys_off}
+use Rattle.ckrt_calls.proofs.Beginnings.{well_formed_fresh, well_formed_keys_off}
 use Rattle.ckrt_tables.specs.Savable.{if_there, is_id, is_word, fit_registers, fits_slot, Fit, CanBeSaved}
 
 -- LISTS

@@ -13,8 +13,8 @@ use Rattle.ckrt_thread.proofs.ThreadRows.{few_threads}
 use Rattle.ckrt_objects.specs.declared.address_map.Entry.{Entry}
 use Rattle.ckrt_rwlock.specs.declared.records.RwLock.{RwLock}
 use Rattle.ckrt_rwlock.specs.RwLock.{is_proper}
-use Rattle.ckrt_state.specs.declared.table.Tables.{Tables}
-use Rattle.ckrt_state.specs.WellFormed.{IsWellFormed}
+use Rattle.ckrt_calls.specs.declared.table.Tables.{Tables}
+use Rattle.ckrt_calls.specs.WellFormed.{IsWellFormed}
 use Rattle.ckrt_thread.specs.declared.keys.SpecificData.{SpecificData}
 use Rattle.ckrt_thread.specs.Keys.{KeyTable, are_proper_keys}
 use Rattle.ckrt_thread.proofs.KeyLemmas.{enough_values}

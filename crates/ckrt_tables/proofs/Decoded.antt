@@ -1,6 +1,6 @@
 -- Bytes decode to one thing only.
 use Rattle.std.proofs.Common.{◌≡◌, ℕ, Option, Some, None, List, refl, sym, ap, ◌∙◌}
-use Rattle.ckrt_state.specs.declared.table.Tables.{Tables}
+use Rattle.ckrt_calls.specs.declared.table.Tables.{Tables}
 use Rattle.ckrt_tables.specs.Decoding.{Saved, DecodesTo}
 use Rattle.ckrt_tables.proofs.Distinct.{distinct}
 

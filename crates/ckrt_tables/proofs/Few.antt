@@ -14,8 +14,8 @@ use Rattle.ckrt_thread.proofs.QueueLemmas.{ids_any}
 use Rattle.ckrt_objects.proofs.InUse.{entries_le}
 use Rattle.ckrt_mutex.specs.Rows as mutex
 use Rattle.ckrt_rwlock.specs.Rows as rwlock
-use Rattle.ckrt_state.specs.declared.table.Tables.{Tables}
-use Rattle.ckrt_state.specs.WellFormed.{IsWellFormed}
+use Rattle.ckrt_calls.specs.declared.table.Tables.{Tables}
+use Rattle.ckrt_calls.specs.WellFormed.{IsWellFormed}
 use Rattle.ckrt_tables.specs.Writing.{IsFew}
 
 below_65 : (s : threads.State) (q : ℕ) → threads.IsWellFormed s → list_any (eqb q) (0 ∷ ids s.waits) ≡ true → q < 65

@@ -3,8 +3,8 @@ use Rattle.std.proofs.Common.{◌≡◌, ℕ, Bool, true, false, eqb, refl, ap, 
 use Rattle.std.proofs.lemmas.Bool.Decides.{nat_tests}
 use Rattle.ckrt_rv32i.specs.declared.execution.Cause.{Cause}
 use Rattle.ckrt_rv32i.specs.declared.execution.Cause.TheVariants as cause
-use Rattle.ckrt_state.specs.declared.table.Status.{Status}
-use Rattle.ckrt_state.specs.declared.table.Status.TheVariants as status
+use Rattle.ckrt_calls.specs.declared.table.Status.{Status}
+use Rattle.ckrt_calls.specs.declared.table.Status.TheVariants as status
 use Rattle.ckrt_tables.specs.Records.{flag, cause_number}
 use Rattle.ckrt_tables.specs.Encoding.{framed, status_bytes, status_from}
 use Rattle.ckrt_tables.specs.Savable.{is_byte, is_word, fits_status}

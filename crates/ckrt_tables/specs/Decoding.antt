@@ -6,8 +6,8 @@ use Rattle.arrayvec.specs.ArrayVec.{ArrayVec}
 use Rattle.circular_buffer.specs.Buffer.{Buffer, buffer}
 use Rattle.ckrt_thread.specs.Keys.{all_keys}
 use Rattle.ckrt_thread.specs.Contents.{empty}
-use Rattle.ckrt_state.specs.declared.table.Tables.{Tables}
-use Rattle.ckrt_state.specs.Output.{HELD_LIMIT}
+use Rattle.ckrt_calls.specs.declared.table.Tables.{Tables}
+use Rattle.ckrt_calls.specs.Output.{HELD_LIMIT}
 use Rattle.ckrt_tables.specs.Encoding.{encoding_of}
 use Rattle.ckrt_tables.specs.Savable.{CanBeSaved}
 

@@ -1,7 +1,7 @@
 -- The saved tables of a program that hasn't begun.
 use Rattle.std.specs.Prelude.{◌≡◌, ◌*◌, ℕ, List, [], ◌∷◌, ◌++◌, replicate}
 use Rattle.byteorder.specs.Endian.{little_bytes}
-use Rattle.ckrt_state.specs.Beginnings.{fresh, with_keys_off}
+use Rattle.ckrt_calls.specs.Beginnings.{fresh, with_keys_off}
 use Rattle.ckrt_tables.specs.Encoding.{encoding_of}
 
 -- 45 bytes, and what follows: clock, input, status and harts; thread 1, marked as the initial one, with its pc, return address

@@ -1,7 +1,7 @@
 //! Bytes as tables and held output.
 ghost use Rattle.std.specs.Prelude.{◌⊎◌, ◌≡◌, ◌≤◌, ◌∷◌, [], ◌↔◌, IsTrue, IfOk, IfSome, length, true};
-ghost use Rattle.ckrt_state.specs.WellFormed.{IsWellFormed};
-ghost use Rattle.ckrt_state.specs.Output.{HELD_LIMIT};
+ghost use Rattle.ckrt_calls.specs.WellFormed.{IsWellFormed};
+ghost use Rattle.ckrt_calls.specs.Output.{HELD_LIMIT};
 ghost use Rattle.ckrt_tables.specs.Decoding.{DecodesTo, Finds, IsBegun, IsEncodingOf, Saved, saved};
 ghost use Rattle.ckrt_tables.specs.Encoding.{encoding_of, status_bytes, status_from, IsHeld};
 ghost use Rattle.ckrt_tables.specs.Records.{cause_from, flag};
@@ -16,10 +16,10 @@ use crate::reading_objects::{read_barriers, read_mutexes, read_rwlocks};
 use crate::reading_queues::{read_held, read_input};
 use crate::reading_threads::read_threads;
 use ckrt_barrier::Barriers;
+use ckrt_calls::{HELD_LIMIT, InputQueue, Status, Tables};
 use ckrt_mutex::Mutexes;
 use ckrt_rv32i::Cause;
 use ckrt_rwlock::RwLocks;
-use ckrt_state::{HELD_LIMIT, InputQueue, Status, Tables};
 use ckrt_thread::{Keys, ThreadId, Threads};
 use std::alloc::{AllocError, Global};
 

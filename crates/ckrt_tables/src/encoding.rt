@@ -1,8 +1,8 @@
 //! Tables and held output as bytes.
 ghost use Rattle.std.specs.Prelude.{◌≡◌, ◌≤◌, ℕ, ◌+◌, ◌∷◌, ◌++◌, [], length, take, drop, Some};
 ghost use Rattle.byteorder.specs.Endian.{little_bytes};
-ghost use Rattle.ckrt_state.specs.WellFormed.{IsWellFormed};
-ghost use Rattle.ckrt_state.specs.Output.{HELD_LIMIT};
+ghost use Rattle.ckrt_calls.specs.WellFormed.{IsWellFormed};
+ghost use Rattle.ckrt_calls.specs.Output.{HELD_LIMIT};
 ghost use Rattle.ckrt_tables.specs.Decoding.{DecodesTo};
 ghost use Rattle.ckrt_tables.specs.Encoding.{AREA_VERSION, TABLES_ROOM, LONGEST_TABLES, encoding_of, status_bytes, framed, queue_bytes, IsHeld};
 ghost use Rattle.ckrt_tables.specs.Records.{flag};
@@ -16,7 +16,7 @@ use crate::threads::{put_harts, put_threads, put_waits};
 use crate::writing::put;
 use byteorder::{ByteOrder, LittleEndian};
 use circular_buffer::HeapCircularBuffer;
-use ckrt_state::{InputQueue, Status, Tables};
+use ckrt_calls::{InputQueue, Status, Tables};
 use ckrt_thread::{MAX_KEYS, ThreadId};
 
 /// The output that a program holds, first byte first: at most [`crate::HELD_LIMIT`] bytes.

@@ -3,18 +3,18 @@
 ghost use Rattle.std.specs.Prelude.{◌≡◌, ◌==◌, Bool, true, length};
 ghost use Rattle.std.specs.List.{list_all};
 ghost use Rattle.ckrt_thread.specs.State.{is_proper_live};
-ghost use Rattle.ckrt_state.specs.WellFormed.{IsWellFormed};
+ghost use Rattle.ckrt_calls.specs.WellFormed.{IsWellFormed};
 ghost use Rattle.ckrt_tables.specs.Encoding.{IsHeld};
 ghost use Rattle.ckrt_tables.specs.Savable.{CanBeSaved, if_there, is_byte, is_half, is_word, is_long, fit_registers, fits_data, fit_keys, fits_thread, fits_wait, fits_status, is_without_data, is_slot_without_data, is_without_keys};
 ghost use Rattle.ckrt_thread.specs.declared.records.Thread.TheVariants as thread;
 
 use crate::encoding::Held;
 use ckrt_barrier::Barrier;
+use ckrt_calls::{Status, Tables};
 use ckrt_mutex::Mutex;
 use ckrt_objects::Entry;
 use ckrt_registers::Regs;
 use ckrt_rwlock::RwLock;
-use ckrt_state::{Status, Tables};
 use ckrt_thread::{Handler, Keys, Live, SpecificData, Thread, Threads, Wait};
 
 /// What has numbers that fit the fields in which they are saved.

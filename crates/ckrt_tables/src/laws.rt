@@ -1,8 +1,8 @@
 //! Laws of saved tables. Each is the contract of a function with an empty body.
 ghost use Rattle.std.specs.Prelude.{◌≡◌, ◌≤◌, ℕ, Option, List, [], length};
-ghost use Rattle.ckrt_state.specs.declared.table.Tables.{Tables};
-ghost use Rattle.ckrt_state.specs.Beginnings.{fresh, with_keys_off};
-ghost use Rattle.ckrt_state.specs.WellFormed.{IsWellFormed};
+ghost use Rattle.ckrt_calls.specs.declared.table.Tables.{Tables};
+ghost use Rattle.ckrt_calls.specs.Beginnings.{fresh, with_keys_off};
+ghost use Rattle.ckrt_calls.specs.WellFormed.{IsWellFormed};
 ghost use Rattle.ckrt_tables.specs.Encoding.{LONGEST_TABLES, encoding_of, IsHeld};
 ghost use Rattle.ckrt_tables.specs.Savable.{AreDistinct, CanBeSaved};
 ghost use Rattle.ckrt_tables.specs.Decoding.{Saved, DecodesTo};

@@ -17,7 +17,7 @@ mod reading_threads;
 mod threads;
 mod writing;
 
-pub use ckrt_state::HELD_LIMIT;
+pub use ckrt_calls::HELD_LIMIT;
 pub use decoding::decode_tables;
 pub use encoding::{AREA_VERSION, Held, LONGEST_TABLES, TABLES_ROOM, encode_tables};
 pub use laws::{

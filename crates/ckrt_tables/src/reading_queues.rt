@@ -1,13 +1,13 @@
 //! Reading the input that no thread has read, and the held output.
 ghost use Rattle.std.specs.Prelude.{◌≡◌, ◌≤◌, [], length};
-ghost use Rattle.ckrt_state.specs.declared.input.TheConstants.{INPUT_LIMIT};
-ghost use Rattle.ckrt_state.specs.Output.{HELD_LIMIT};
+ghost use Rattle.ckrt_calls.specs.declared.input.TheConstants.{INPUT_LIMIT};
+ghost use Rattle.ckrt_calls.specs.Output.{HELD_LIMIT};
 ghost use Rattle.ckrt_tables.specs.Encoding.{queue_bytes};
 ghost use Rattle.ckrt_tables.specs.Objects.{FindsAll, AreUpTo};
 
 use crate::cursor::Cursor;
 use crate::encoding::Held;
-use ckrt_state::{HELD_LIMIT, INPUT_LIMIT, InputQueue};
+use ckrt_calls::{HELD_LIMIT, INPUT_LIMIT, InputQueue};
 
 /// How many bytes there are, and the bytes; none where there are more than that many, or fewer are left.
 fn read_queue<'a>(cursor: &mut Cursor<'a>, limit: usize) -> &'a [u8]

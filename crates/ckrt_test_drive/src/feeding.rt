@@ -5,8 +5,7 @@ use crate::expect::{
 };
 use crate::small_disk::{SMALL, format_outcome, recovered};
 use ckrt_disk::{Disk, MemoryDisk};
-use ckrt_drive::{Drive, DriveFault, FromDisk, Nobody, Options};
-use ckrt_record::{RECORD_BYTES, read_offset};
+use ckrt_drive::{Drive, DriveFault, FromDisk, Nobody, Options, RECORD_BYTES, read_offset};
 use ckrt_schedule::ScheduleEnd;
 use ckrt_test_data::{FILLS, SIZE};
 use std::process::Abort;

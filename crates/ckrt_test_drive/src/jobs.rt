@@ -93,36 +93,33 @@ fn a_longer_file_keeps_what_stands_behind(rt: HostRuntime) {
     play(&rt, LONGER);
 }
 
-const OPEN_GATE: &str =
-    "the disk jobs_j.disk: it holds a program already, and is unchanged; `ckrt drive` goes on with it\nckrt: AlreadyFormatted\n";
-
 const NO_DISK: &str =
     "the disk jobs_j.disk: it is no disk, and is unchanged; move it away, or give another path\nckrt: NotADisk\n";
 
-/// Files whose first byte is an open gate: shorter than any disk, or by a byte, they are somebody's; one that is as long may be a disk.
+/// The front of a disk: an open gate, and a disk's name.
+const FRONT: &[u8] = b"\xa5\0\0\0\0\0\0\0CKRTDISK";
+
+/// Files that begin as a disk does are somebody's where they lack a disk's name, or are shorter than any disk.
 const OPEN_GATES: &[Step] = &[
     Write("jobs_j.img", &IMAGE),
-    Fill("jobs_j.disk", 0xa5, 102_400),
-    Fails(
-        "format jobs_j.disk jobs_j.img --pages 16 --journal 4096",
-        NO_DISK,
-    ),
-    EndsWith("jobs_j.disk", 102_400, &[0xa5; 10]),
     Fill("jobs_j.disk", 0xa5, 348_159),
     Fails("format jobs_j.disk jobs_j.img", NO_DISK),
     EndsWith("jobs_j.disk", 348_159, &[0xa5; 10]),
     Fill("jobs_j.disk", 0xa5, 348_160),
     Fails(
         "format jobs_j.disk jobs_j.img --pages 16 --journal 4096",
-        OPEN_GATE,
+        NO_DISK,
     ),
     EndsWith("jobs_j.disk", 348_160, &[0xa5; 10]),
+    Write("jobs_j.disk", FRONT),
+    Fails("format jobs_j.disk jobs_j.img", NO_DISK),
+    Holds("jobs_j.disk", FRONT),
     Remove("jobs_j.disk"),
     Remove("jobs_j.img"),
 ];
 
 #[test]
-fn what_is_shorter_than_any_disk_is_no_formatted_one(rt: HostRuntime) {
+fn a_file_that_begins_as_a_disk_does_is_somebodys(rt: HostRuntime) {
     play(&rt, OPEN_GATES);
 }
 

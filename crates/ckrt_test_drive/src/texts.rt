@@ -2,9 +2,8 @@
 //! fault's name; and which reason of a failed output each error of the system is.
 
 use crate::expect::expect_eq_at;
-use ckrt_cli_faults::{InputLengths, JobFault, OutputLengths};
 use ckrt_cli_files::{FileFault, JobFile, OutputReason, ToldWriter};
-use ckrt_cli_reports::{WrittenReport, report};
+use ckrt_cli_reports::{InputLengths, JobFault, OutputLengths, WrittenReport, report};
 use ckrt_cli_words::read_words;
 use ckrt_drive::DriveFault;
 use ckrt_inspect::InspectFault;

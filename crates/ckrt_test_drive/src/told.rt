@@ -2,7 +2,7 @@
 
 use crate::expect::{expect_bytes, expect_eq};
 use ckrt_cli_names::{Form, NamedWriter, Names};
-use ckrt_look_callers::Frame;
+use ckrt_look_recording::Frame;
 use ckrt_memory::Memory;
 use ckrt_registers::Regs;
 use std::io::Write;

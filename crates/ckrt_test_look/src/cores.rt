@@ -3,7 +3,7 @@
 
 use crate::expect::{expect_eq, machine_of};
 use crate::notes::{Noted, core_of, expect_note, expect_part, expect_words, expect_zeros, run};
-use ckrt_look_core_file::write_core;
+use ckrt_gdb_forms::write_core;
 use std::io::{self, ErrorKind, Write};
 
 /// Where the program headers begin.

@@ -2,7 +2,7 @@
 
 use crate::expect::expect_eq;
 use crate::packets::{expect_arrivals, last_asked};
-use ckrt_gdb_packets::{Arrival, PAYLOAD_LIMIT, Receiver, Request};
+use ckrt_gdb_forms::{Arrival, PAYLOAD_LIMIT, Receiver, Request};
 use std::process::Abort;
 
 #[test]

@@ -3,11 +3,11 @@
 use crate::expect::{expect_eq, image_of};
 use crate::hunts::{SHAPE, outcomes_of};
 use crate::outcomes::RACES;
+use ckrt_calls::Status;
 use ckrt_disk::{Disk, MemoryDisk};
 use ckrt_hunt_schedules::{KeptDisk, Outcome, Plan, Row, SeedFault, keep_seed};
 use ckrt_recovery::{Config, FormatFault, Session, recover};
 use ckrt_schedule::ScheduleEnd;
-use ckrt_state::Status;
 use std::process::Abort;
 
 /// The configuration of the disks.

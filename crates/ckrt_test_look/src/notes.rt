@@ -2,7 +2,7 @@
 
 use crate::expect::expect_eq;
 use ckrt_events::Event;
-use ckrt_look_core_file::write_core;
+use ckrt_gdb_forms::write_core;
 use ckrt_machine::Machine;
 use std::process::Abort;
 

@@ -2,7 +2,7 @@
 
 use crate::expect::expect_eq;
 use arrayvec::ArrayVec;
-use ckrt_gdb_packets::{
+use ckrt_gdb_forms::{
     Arrival, Full, Payload, Receiver, Reply, Request, Text, parse_request, write_frame, write_reply,
 };
 use std::process::Abort;

@@ -3,7 +3,7 @@
 
 use crate::expect::expect_eq;
 use crate::packets::{expect_reply, frame_size};
-use ckrt_gdb_packets::{Cause, Full, Reply};
+use ckrt_gdb_forms::{Cause, Full, Reply};
 
 #[test]
 fn short_replies(rt: HostRuntime) {

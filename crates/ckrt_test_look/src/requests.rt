@@ -1,7 +1,7 @@
 //! What packets ask. The frames are those of recorded sessions of gdb, and some that no gdb sends.
 
 use crate::packets::{expect_asked, text};
-use ckrt_gdb_packets::{Choice, Mark, Motion, Request};
+use ckrt_gdb_forms::{Choice, Mark, Motion, Request};
 
 #[test]
 fn gdb_connects(rt: HostRuntime) {

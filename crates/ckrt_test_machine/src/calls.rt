@@ -1,8 +1,8 @@
 //! Calls of the guest, made on the tables of a program by hand.
 ghost use Rattle.std.specs.Prelude.{◌≡◌, ◌%◌, ◌≤◌, true, false};
 ghost use Rattle.ckrt_thread.specs.State.{is_live, is_waiting};
-ghost use Rattle.ckrt_state.specs.declared.table.Status.TheVariants.{Running};
-ghost use Rattle.ckrt_state.specs.WellFormed.{IsWellFormed};
+ghost use Rattle.ckrt_calls.specs.declared.table.Status.TheVariants.{Running};
+ghost use Rattle.ckrt_calls.specs.WellFormed.{IsWellFormed};
 
 use ckrt_calls::{Status, Tables, call, tick};
 use ckrt_rv32i::Regs;

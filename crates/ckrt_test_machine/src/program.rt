@@ -1,5 +1,5 @@
 //! The tables of a program, on which tests make the calls of its guest by hand.
-ghost use Rattle.ckrt_state.specs.WellFormed.{IsWellFormed};
+ghost use Rattle.ckrt_calls.specs.WellFormed.{IsWellFormed};
 
 use crate::calls::{call_as, is_running, tables_with, tick_by};
 use crate::expect::expect_eq_at;

@@ -4,9 +4,9 @@ ghost use Rattle.ckrt_events.specs.Bytes.{IsInRange};
 use crate::expect::{expect_eq, image_of};
 use crate::image_service::expect_replies;
 use crate::schedules::{NOTHING_ELSE, Schedule, expect_console};
+use ckrt_calls::Status;
 use ckrt_events::Event;
 use ckrt_machine::{Answer, Machine, RunEnd};
-use ckrt_state::Status;
 use std::process::Abort;
 
 /// Becomes asynchronous, cancels itself, and would loop for ever.

@@ -1,12 +1,12 @@
 //! Lives of one program, one after another, over a disk that stops.
 
 ghost use Rattle.std.specs.Prelude.{IsTrue, All};
-ghost use Rattle.ckrt_commands.specs.Lives.{IsInRangeLife};
+ghost use Rattle.ckrt_main.specs.Lives.{IsInRangeLife};
 
 use crate::expect::{copied, expect_bytes, expect_eq, expect_eq_at};
 use crate::small_disk::{SMALL, recovered_in_memory};
-use ckrt_commands::{Life, LifeReport, LivesFault, lives};
 use ckrt_events::{Command, Event};
+use ckrt_main::{Life, LifeReport, LivesFault, lives};
 use ckrt_recovery::Config;
 use ckrt_test_data::IMAGE;
 use std::process::Abort;

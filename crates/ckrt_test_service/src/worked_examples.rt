@@ -4,13 +4,13 @@ use crate::expect::{expect_bytes, expect_eq, expect_part, image_of, memory_disk,
 use crate::service::{expect_replies, lived};
 use crate::sessions::{expect_answer, expect_commit};
 use crate::small_disk::{formatted, recovered, recovered_in_memory};
+use ckrt_calls::Status;
 use ckrt_disk::Disk;
 use ckrt_events::Event;
 use ckrt_inspect::inspect;
 use ckrt_machine::{Answer, RunEnd};
 use ckrt_recovery::{CommitFault, Session};
 use ckrt_rv32i::Cause;
-use ckrt_state::Status;
 use ckrt_test_data::IMAGE;
 use std::process::Abort;
 

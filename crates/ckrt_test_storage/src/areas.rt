@@ -4,17 +4,17 @@
 //! at 4,096 and 172,032 and the journals at 339,968 and 344,064, as the format has it.
 ghost use Rattle.std.specs.Prelude.{IsTrue, ◌≡◌, ◌≤◌, true};
 ghost use Rattle.ckrt_memory.specs.Marks.{IsAllDirty};
-ghost use Rattle.ckrt_checkpoint.specs.Layout.{is_valid, size_needed};
+ghost use Rattle.ckrt_stored.specs.Layout.{is_valid, size_needed};
 
 use crate::expect::{
     copied, expect_bytes, expect_eq, expect_eq_at, expect_text, filled, lay, memory_disk,
     stopping_disk,
 };
 use crate::small_disk::{SMALL, formatted};
-use ckrt_checkpoint::{Area, AreaFault, SavePoint, pick_area, read_area, write_area};
+use ckrt_calls::Tables;
 use ckrt_disk::Disk;
 use ckrt_memory::Memory;
-use ckrt_state::Tables;
+use ckrt_stored::{Area, AreaFault, SavePoint, pick_area, read_area, write_area};
 use ckrt_tables::{HELD_LIMIT, Held, TABLES_ROOM, encode_tables};
 use ckrt_test_data::{FILLS, IMAGE, SIZE};
 use std::process::Abort;

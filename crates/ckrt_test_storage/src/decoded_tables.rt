@@ -2,8 +2,8 @@
 
 use crate::expect::{bytes_of, expect_eq, expect_eq_at, push, push_zeros};
 use crate::saved_tables::{bytes_of_everything, expect_encoding};
+use ckrt_calls::{Status, Tables};
 use ckrt_rv32i::Cause;
-use ckrt_state::{Status, Tables};
 use ckrt_tables::{Held, LONGEST_TABLES, decode_tables};
 use ckrt_test_data::{BEHIND_THREAD, FRESH, INITIAL_THREAD, OLD_FRESH};
 use std::process::Abort;

@@ -1,11 +1,11 @@
 //! A listing with a line of every kind, written down from the format.
 
 use crate::expect::{bytes_of, expect_bytes, expect_eq};
+use ckrt_calls::{Status, Tables};
 use ckrt_inspect::{write_listing, write_listing_with_code};
 use ckrt_machine::Machine;
 use ckrt_memory::Memory;
 use ckrt_rv32i::Cause;
-use ckrt_state::{Status, Tables};
 use ckrt_tables::decode_tables;
 use ckrt_test_data::EVERYTHING;
 use std::process::Abort;

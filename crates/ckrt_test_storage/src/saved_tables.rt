@@ -4,11 +4,11 @@ use crate::expect::{bytes_of, expect_bytes, expect_eq, expect_eq_at, filled};
 use arrayvec::ArrayVec;
 use circular_buffer::HeapCircularBuffer;
 use ckrt_barrier::{Barrier, Barriers};
+use ckrt_calls::{InputQueue, Status, Tables};
 use ckrt_mutex::{Kind, Mutex, Mutexes};
 use ckrt_objects::Entry;
 use ckrt_rv32i::Regs;
 use ckrt_rwlock::{RwLock, RwLocks};
-use ckrt_state::{InputQueue, Status, Tables};
 use ckrt_tables::{HELD_LIMIT, Held, TABLES_ROOM, encode_tables};
 use ckrt_test_data::{EVERYTHING, FRESH};
 use ckrt_thread::{

@@ -4,8 +4,8 @@ use Rattle.std.proofs.lemmas.Bool.{false≢true}
 use Rattle.std.specs.Prelude.{◌==◌, MatchOption, is_ok}
 use Rattle.std.specs.List.{list_any}
 use Rattle.std.specs.Str.Lines.{lines}
-use Rattle.ckrt_commands.specs.Replies.{Reply, outputs, outputs_by}
-use Rattle.ckrt_commands.specs.Transcript.{followed_by, respond, respond_all, submitted, transcript}
+use Rattle.ckrt_main.specs.Replies.{Reply, outputs, outputs_by}
+use Rattle.ckrt_main.specs.Transcript.{followed_by, respond, respond_all, submitted, transcript}
 use Rattle.ckrt_events.specs.Line.{command_of}
 use Rattle.ckrt_events.specs.declared.command.Command.{Command}
 use Rattle.ckrt_events.specs.declared.command.Command.TheVariants.{Submit}

@@ -6,14 +6,14 @@ use Rattle.std.proofs.lemmas.Bool.Decides.{nat_tests}
 use Rattle.ckrt_disk.specs.Disk.{IsOverwritten, IsWithin}
 use Rattle.ckrt_disk.specs.Frame.{IsSameOutside}
 use Rattle.ckrt_disk.proofs.Images.{wider_image}
-use Rattle.ckrt_checkpoint.specs.declared.area.Area.{Area}
-use Rattle.ckrt_checkpoint.specs.declared.config.Config.{Config}
-use Rattle.ckrt_checkpoint.specs.declared.fault.AreaFault.{AreaFault}
-use Rattle.ckrt_checkpoint.specs.declared.fault.AreaFault.TheVariants.{Damaged}
-use Rattle.ckrt_checkpoint.specs.declared.header.Header.{Header}
-use Rattle.ckrt_checkpoint.specs.Areas.{area_of, checked_area}
-use Rattle.ckrt_checkpoint.specs.Layout.{area_at, area_size, header_of, is_open, is_valid, journal_at, memory_of, size_needed}
-use Rattle.ckrt_checkpoint.proofs.PickLemmas.{area_end, checked_same}
+use Rattle.ckrt_stored.specs.declared.area.Area.{Area}
+use Rattle.ckrt_stored.specs.declared.config.Config.{Config}
+use Rattle.ckrt_stored.specs.declared.area_fault.AreaFault.{AreaFault}
+use Rattle.ckrt_stored.specs.declared.area_fault.AreaFault.TheVariants.{Damaged}
+use Rattle.ckrt_stored.specs.declared.header.Header.{Header}
+use Rattle.ckrt_stored.specs.Areas.{area_of, checked_area}
+use Rattle.ckrt_stored.specs.Layout.{area_at, area_size, header_of, is_open, is_valid, journal_at, memory_of, size_needed}
+use Rattle.ckrt_stored.proofs.PickLemmas.{area_end, checked_same}
 use Rattle.ckrt_stored.specs.Frame.{BelongsTo, IsNewest}
 use Rattle.ckrt_stored.specs.Recovery.{Recovered, Recovers, in_use}
 use Rattle.ckrt_stored.proofs.AreaLemmas.{IsInUse, is_in_use}

@@ -1,7 +1,7 @@
 -- A run whose job didn't fail came to its drive.
 use Rattle.std.proofs.Common.{◌≡◌, inl, inr, ℕ, Bool, true, false, List, Option, Some, None, Result, Ok, Err, refl, sym, ◌∙◌, ap, subst}
 use Rattle.std.specs.Prelude.{◌≢◌}
-use Rattle.ckrt_checkpoint.specs.declared.config.Config.{Config}
+use Rattle.ckrt_stored.specs.declared.config.Config.{Config}
 use Rattle.ckrt_disk.specs.Frame.{IsOnlyRead}
 use Rattle.ckrt_disk.specs.declared.disk.DeviceFault.{DeviceFault}
 use Rattle.ckrt_disk.specs.declared.disk.Disk.{Ghosts}
@@ -12,11 +12,11 @@ use Rattle.ckrt_recovery.specs.Recovered.{IsRecovered}
 use Rattle.ckrt_cli_disk.specs.Feeding.{Supplies}
 use Rattle.ckrt_cli_disk.specs.Missing.{FindsDisk}
 use Rattle.ckrt_cli_disk.specs.declared.feeding.Supplied.{Supplied}
-use Rattle.ckrt_cli_faults.specs.Outside.{Outside}
-use Rattle.ckrt_cli_faults.specs.Ranges.{config_for, is_in_range}
-use Rattle.ckrt_cli_faults.specs.Statuses.{status_of, status_of_words}
-use Rattle.ckrt_cli_faults.specs.declared.driven.Driven.{Driven}
-use Rattle.ckrt_cli_faults.specs.declared.fault.JobFault.{JobFault}
+use Rattle.ckrt_cli_reports.specs.Outside.{Outside}
+use Rattle.ckrt_cli_reports.specs.Ranges.{config_for, is_in_range}
+use Rattle.ckrt_cli_reports.specs.Statuses.{status_of, status_of_words}
+use Rattle.ckrt_cli_reports.specs.declared.driven.Driven.{Driven}
+use Rattle.ckrt_cli_reports.specs.declared.fault.JobFault.{JobFault}
 use Rattle.ckrt_cli.specs.Performing.{Reach, RunsRequest, RunsWords, Said, means_in, outcome_with_end}
 use Rattle.ckrt_recovery.specs.declared.session.Session.{Session}
 use Rattle.ckrt_cli_files.specs.Openings.{Openings, opened, with_both_closed, with_closed_output, with_output}
@@ -24,8 +24,8 @@ use Rattle.ckrt_cli_files.specs.declared.output.OpenedOutput.{OpenedOutput}
 use Rattle.ckrt_cli_words.specs.Jobs.{Driving, drive, request_of_words}
 use Rattle.ckrt_cli_words.specs.declared.job.WordsFault.{WordsFault}
 use Rattle.ckrt_cli_words.specs.declared.job.WordsFault.TheVariants as words
-use Rattle.ckrt_cli_theorem.specs.Coming.{Came, Fed, Sized, in_range, of_fed, of_found, of_looked, of_path, of_sized, onto_fitting, onto_opened, set}
-use Rattle.ckrt_cli_theorem.specs.Commands.{asked_or, of_request, of_words}
+use Rattle.ckrt_cli.specs.Coming.{Came, Fed, Sized, in_range, of_fed, of_found, of_looked, of_path, of_sized, onto_fitting, onto_opened, set}
+use Rattle.ckrt_cli.specs.Commands.{asked_or, of_request, of_words}
 
 module _ {D W : Type 0} {d : Ghosts D} (means : Means d W) (j : Driving) where
   abbrev pub Finds : D → Type 0

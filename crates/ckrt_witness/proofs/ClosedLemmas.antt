@@ -1,6 +1,6 @@
 -- What closed witnesses are made of.
 use Rattle.std.proofs.Common.{◌≡◌, List, ℕ, sym, subst}
-use Rattle.ckrt_checkpoint.specs.declared.config.Config.{Config}
+use Rattle.ckrt_stored.specs.declared.config.Config.{Config}
 use Rattle.ckrt_disk.specs.Frame.{MayBeLeft}
 use Rattle.ckrt_disk.specs.declared.disk.Disk.{Ghosts}
 use Rattle.ckrt_stored.specs.Format.{FormatsDisk}

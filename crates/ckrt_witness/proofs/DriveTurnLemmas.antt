@@ -4,14 +4,14 @@ use Rattle.std.proofs.lemmas.Bool.Decides.{nat_tests}
 use Rattle.std.specs.Prelude.{◌==◌, ◌*◌, IfSome, nat_le}
 use Rattle.ckrt_disk.specs.Disk.{IsImage}
 use Rattle.ckrt_disk.specs.declared.disk.Disk.{Ghosts}
-use Rattle.ckrt_checkpoint.specs.Layout.{is_valid}
-use Rattle.ckrt_checkpoint.specs.declared.config.Config.{Config}
+use Rattle.ckrt_stored.specs.Layout.{is_valid}
+use Rattle.ckrt_stored.specs.declared.config.Config.{Config}
 use Rattle.ckrt_events.specs.Bytes.{RUN_LIMIT}
 use Rattle.ckrt_events.specs.declared.event.Event.{Event}
 use Rattle.ckrt_events.specs.declared.event.Event.TheVariants.{Tick}
 use Rattle.ckrt_machine.specs.Runs.{is_running}
 use Rattle.ckrt_machine.specs.Steps.{State}
-use Rattle.ckrt_state.specs.declared.table.Tables.{Tables}
+use Rattle.ckrt_calls.specs.declared.table.Tables.{Tables}
 use Rattle.ckrt_thread.specs.State.{is_ready}
 use Rattle.ckrt_schedule.specs.Schedules.{chosen, earliest_deadline, event_at, idle_until, next_by, next_event, next_sought, of_runner, on_hart, run_by, runner_at, ticks_to, turn_at}
 use Rattle.ckrt_schedule.specs.Turns.{given_among, is_given, turns_within}

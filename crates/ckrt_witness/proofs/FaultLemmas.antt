@@ -11,8 +11,8 @@ use Rattle.ckrt_events.specs.declared.command.LineFault.{LineFault}
 use Rattle.ckrt_machine.specs.declared.event.Answer.{Answer}
 use Rattle.ckrt_recovery.specs.Calls.{Checkpoints, Commits, IsAfterEvent, IsAnswered, WritesJournal, checkpoint_refusal}
 use Rattle.ckrt_recovery.specs.View.{View, after_event, is_refused, opened, refusal_of, view_of}
-use Rattle.ckrt_checkpoint.specs.Layout.{is_valid, memory_size}
-use Rattle.ckrt_checkpoint.specs.declared.config.Config.{Config}
+use Rattle.ckrt_stored.specs.Layout.{is_valid, memory_size}
+use Rattle.ckrt_stored.specs.declared.config.Config.{Config}
 use Rattle.ckrt_recovery.specs.declared.fault.CommitFault.{CommitFault}
 use Rattle.ckrt_recovery.specs.declared.fault.CommitFault.TheVariants as commit
 use Rattle.ckrt_recovery.specs.declared.fault.SubmitFault.{SubmitFault}

@@ -10,7 +10,7 @@ use Rattle.ckrt_recovery.specs.declared.session.Session.{Session}
 use Rattle.ckrt_schedule.specs.declared.next.ScheduleEnd.{ScheduleEnd}
 use Rattle.ckrt_stored.specs.Programs.{Program, RecoversToStart}
 use Rattle.ckrt_cli_disk.specs.Driving.{driven_of}
-use Rattle.ckrt_cli_faults.specs.Lengths.{fits, lengths_of}
+use Rattle.ckrt_cli_reports.specs.Lengths.{fits, lengths_of}
 use Rattle.ckrt_witness.specs.Lengths.{LengthWitness}
 
 module _ {D O : Type 0} (d : Ghosts D) (o : Ghosts O) (disk input input_end : D) (options : Options) (left taken : ℕ) (s t : Session D d) (a b : O) (ending : ScheduleEnd) where

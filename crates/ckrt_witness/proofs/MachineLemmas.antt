@@ -6,7 +6,7 @@ use Rattle.ckrt_machine.specs.Events.{IsAccepted, fold, output_of, step}
 use Rattle.ckrt_machine.specs.Steps.{State}
 use Rattle.ckrt_machine.proofs.FoldLaws.{accepted_on, output_on, state_on}
 use Rattle.ckrt_machine.specs.declared.event.Refusal.{Refusal}
-use Rattle.ckrt_state.specs.WellFormed.{IsWellFormed}
+use Rattle.ckrt_calls.specs.WellFormed.{IsWellFormed}
 use Rattle.ckrt_witness.specs.Machine.{HasAllWaits, HasEachKind, MachineWitness, MayGoOn, WasAccepted, WereAccepted}
 
 some_before : {X : Type 0} (xs ys : List X) → xs ≢ [] → xs ++ ys ≢ []

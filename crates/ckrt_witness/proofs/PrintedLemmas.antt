@@ -9,8 +9,8 @@ use Rattle.ckrt_events.specs.declared.event.Event.{Event}
 use Rattle.ckrt_cli_disk.specs.Printing.{HoldsEvents}
 use Rattle.ckrt_cli_disk.specs.Running.{IsOfStream, IsUnrecovered, Serves}
 use Rattle.ckrt_main.specs.Service.{Processes}
-use Rattle.ckrt_cli_faults.specs.declared.fault.JobFault.{JobFault}
-use Rattle.ckrt_cli_faults.specs.declared.fault.JobFault.TheVariants.{Recover}
+use Rattle.ckrt_cli_reports.specs.declared.fault.JobFault.{JobFault}
+use Rattle.ckrt_cli_reports.specs.declared.fault.JobFault.TheVariants.{Recover}
 use Rattle.ckrt_recovery.specs.Opening.{IsSyncedAndRead}
 use Rattle.ckrt_recovery.specs.Represents.{Represents, RepresentsDisk, RepresentsOneMore, RepresentsSame}
 use Rattle.ckrt_recovery.specs.View.{View, committed, view_of}

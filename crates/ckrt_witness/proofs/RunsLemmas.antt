@@ -12,8 +12,8 @@ use Rattle.ckrt_cli_disk.specs.Programs.{Compares}
 use Rattle.ckrt_cli_disk.specs.declared.feeding.Intake.{Intake}
 use Rattle.ckrt_cli_disk.specs.declared.feeding.Supplied.{Supplied}
 use Rattle.ckrt_cli_disk.specs.declared.feeding.Unready.{Unready}
-use Rattle.ckrt_cli_faults.specs.Ranges.{config_for}
-use Rattle.ckrt_cli_faults.specs.declared.fault.JobFault.{JobFault}
+use Rattle.ckrt_cli_reports.specs.Ranges.{config_for}
+use Rattle.ckrt_cli_reports.specs.declared.fault.JobFault.{JobFault}
 use Rattle.ckrt_cli.specs.Performing.{Reach, means_in}
 use Rattle.ckrt_schedule.specs.declared.schedule.Schedule.{Schedule}
 use Rattle.ckrt_cli_files.specs.Openings.{Openings, opened, with_disk, with_closed_input, with_closed_output, with_input}
@@ -22,9 +22,9 @@ use Rattle.ckrt_stored.specs.Programs.{Program, RecoversToStart}
 use Rattle.ckrt_stored.specs.declared.fault.RecoverFault.{RecoverFault}
 use Rattle.ckrt_cli_words.specs.Jobs.{Driving}
 use Rattle.ckrt_drive_theorem.specs.Together.{IsLeftSince}
-use Rattle.ckrt_cli_theorem.specs.Coming.{Came}
-use Rattle.ckrt_cli_theorem.specs.Commands.{Leaves, Paths, Run, drive_in, of_words}
-use Rattle.ckrt_cli_theorem.specs.Promise.{Common, Drove, IsKept, as_drive, drove}
+use Rattle.ckrt_cli.specs.Coming.{Came}
+use Rattle.ckrt_cli.specs.Commands.{Leaves, Paths, Run, drive_in, of_words}
+use Rattle.ckrt_cli.specs.Promise.{Common, Drove, IsKept, as_drive, drove}
 use Rattle.ckrt_witness.specs.Runs.{AsksDrive, CameToDrive, Ran, RanTwice, RunsWitness}
 use Rattle.ckrt_witness.proofs.CameLemmas.{Facts, Finds, came_by_words}
 use Rattle.ckrt_witness.proofs.WitnessLemmas.{again, only_image, stop_at_end}

@@ -2,7 +2,7 @@
 use Rattle.std.proofs.Common.{◌≡◌, ◌≢◌, ◌∙◌, ◌+◌, ◌≤◌, ◌<◌, ℕ, false, Some, None, List, [], length, ap, sym, subst, refl, arith}
 use Rattle.ckrt_disk.specs.Disk.{HasFailed}
 use Rattle.ckrt_disk.specs.declared.disk.Disk.{Ghosts}
-use Rattle.ckrt_commands.specs.Transcript.{accepted_events, transcript, view_after}
+use Rattle.ckrt_main.specs.Transcript.{accepted_events, transcript, view_after}
 use Rattle.ckrt_main.specs.Service.{Served}
 use Rattle.ckrt_main.proofs.FoldLemmas.{count_grows}
 use Rattle.ckrt_recovery.specs.Opening.{IsSyncedAndRead}

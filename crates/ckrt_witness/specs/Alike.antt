@@ -1,6 +1,6 @@
 -- What meets the premises of the laws of sessions that answer alike.
 use Rattle.std.specs.Prelude.{◌≢◌, ℕ, None, List, []}
-use Rattle.ckrt_commands.specs.Transcript.{transcript}
+use Rattle.ckrt_main.specs.Transcript.{transcript}
 use Rattle.ckrt_disk.specs.declared.disk.Disk.{Ghosts}
 use Rattle.ckrt_events.specs.declared.event.Event.{Event}
 use Rattle.ckrt_main.specs.Alike.{IsAlike, NoneIsLocal}

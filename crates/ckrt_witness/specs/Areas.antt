@@ -2,9 +2,9 @@
 use Rattle.std.specs.Prelude.{◌≡◌, ◌≢◌, ◌-◌, ℕ, true, false, List, Ok}
 use Rattle.ckrt_disk.specs.Frame.{IsSameOutside}
 use Rattle.ckrt_tables.specs.Decoding.{Saved}
-use Rattle.ckrt_checkpoint.specs.declared.area.Area.{Area}
-use Rattle.ckrt_checkpoint.specs.declared.config.Config.{Config}
-use Rattle.ckrt_checkpoint.specs.Layout.{header_of}
+use Rattle.ckrt_stored.specs.declared.area.Area.{Area}
+use Rattle.ckrt_stored.specs.declared.config.Config.{Config}
+use Rattle.ckrt_stored.specs.Layout.{header_of}
 use Rattle.ckrt_stored.specs.Frame.{BelongsTo, HoldsState, IsNewest}
 use Rattle.ckrt_stored.specs.Recovery.{Recovered, Recovers}
 use Rattle.ckrt_stored.specs.Superblock.{superblock_of}

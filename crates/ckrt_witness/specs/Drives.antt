@@ -3,7 +3,7 @@ use Rattle.std.specs.Prelude.{◌≡◌, ◌≢◌, ℕ, List, [], ◌∷◌, Op
 use Rattle.ckrt_disk.specs.declared.disk.Disk.{Ghosts}
 use Rattle.ckrt_drive.specs.Stages.{GoesBySteps, Stage, stage}
 use Rattle.ckrt_drive.specs.declared.options.Options.{Options}
-use Rattle.ckrt_record.specs.Offset.{offset_from}
+use Rattle.ckrt_drive.specs.Offset.{offset_from}
 use Rattle.ckrt_recovery.specs.declared.session.Session.{Session}
 use Rattle.ckrt_stored.specs.Programs.{Program, RecoversToStart}
 use Rattle.ckrt_drive_theorem.specs.Drives.{AllHaveInput, AllToldByRecord, ComeBehind, IsDrive, IsToldByRecord, OneDrive}

@@ -1,7 +1,7 @@
 -- What meets the premises of the promise "safe and total": an example of each answer that it speaks of.
 use Rattle.std.specs.Prelude.{◌≡◌, ◌≢◌, ℕ, true, false, List, [], Some, None, Err}
-use Rattle.ckrt_checkpoint.specs.Layout.{is_valid}
-use Rattle.ckrt_checkpoint.specs.declared.config.Config.{Config}
+use Rattle.ckrt_stored.specs.Layout.{is_valid}
+use Rattle.ckrt_stored.specs.declared.config.Config.{Config}
 use Rattle.ckrt_disk.specs.Disk.{HasFailed}
 use Rattle.ckrt_disk.specs.declared.disk.Disk.{Ghosts}
 use Rattle.ckrt_events.specs.Bytes.{IsInRange}

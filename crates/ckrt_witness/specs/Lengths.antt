@@ -5,9 +5,9 @@ use Rattle.ckrt_drive.specs.Runs.{IsAllSaved}
 use Rattle.ckrt_events.specs.declared.event.Event.{Event}
 use Rattle.ckrt_recovery.specs.Represents.{Represents}
 use Rattle.ckrt_recovery.specs.View.{view_of}
-use Rattle.ckrt_cli_faults.specs.Lengths.{fits, lengths_of}
+use Rattle.ckrt_cli_reports.specs.Lengths.{fits, lengths_of}
 use Rattle.ckrt_stored.specs.Programs.{Program}
-use Rattle.ckrt_cli_theorem.specs.Runs.{ProgramRun}
+use Rattle.ckrt_cli.specs.Runs.{ProgramRun}
 
 -- A run with an input that came to its end, where all is saved. The file of its output had a length that fitted its disk, and has more bytes then.
 pub record LengthWitness {D O : Type 0} (d : Ghosts D) (o : Ghosts O) (size : ℕ) : Type 0 where

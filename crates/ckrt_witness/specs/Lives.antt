@@ -1,9 +1,9 @@
 -- What meets the premises of the promise of many lives.
 use Rattle.std.specs.Prelude.{◌≡◌, ◌<◌, ℕ, Some, None, List, [], ◌∷◌, All}
 use Rattle.ckrt_stored.specs.Programs.{Program}
-use Rattle.ckrt_commands.specs.Lives.{AreLives, IsInRangeLife, Releases}
-use Rattle.ckrt_commands.specs.declared.life.Life.{Life}
-use Rattle.ckrt_commands.specs.declared.life.LifeReport.{LifeReport}
+use Rattle.ckrt_main.specs.Lives.{AreLives, IsInRangeLife, Releases}
+use Rattle.ckrt_main.specs.declared.life.Life.{Life}
+use Rattle.ckrt_main.specs.declared.life.LifeReport.{LifeReport}
 
 -- The calls of their disks at which four lives are stopped: the first within a call once it has recovered, the next before it recovers, and the others never.
 pub record AreStopped (cut early one other : ℕ) : Type 0 where

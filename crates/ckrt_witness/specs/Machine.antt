@@ -4,8 +4,8 @@ use Rattle.std.specs.List.{list_any}
 use Rattle.ckrt_thread.specs.State.{first_waiter, is_joined, is_waiting}
 use Rattle.ckrt_thread.specs.declared.records.Object.TheVariants.{Mutex, RwLock}
 use Rattle.ckrt_thread.specs.declared.records.Wait.{Wait}
-use Rattle.ckrt_state.specs.WellFormed.{IsWellFormed}
-use Rattle.ckrt_state.specs.declared.table.Tables.{Tables}
+use Rattle.ckrt_calls.specs.WellFormed.{IsWellFormed}
+use Rattle.ckrt_calls.specs.declared.table.Tables.{Tables}
 use Rattle.ckrt_events.specs.declared.event.Event.{Event}
 use Rattle.ckrt_events.specs.declared.event.Event.TheVariants.{Place, Run, Input, Eof, Tick, RunLong}
 use Rattle.ckrt_machine.specs.Events.{AllAccepted, IsAccepted, fold, output_of, step}

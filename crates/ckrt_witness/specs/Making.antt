@@ -1,12 +1,12 @@
 -- What meets the premises of the making of a disk.
 use Rattle.std.specs.Prelude.{◌≡◌, ℕ, true, false, List, Some, Result, Ok, Err}
-use Rattle.ckrt_checkpoint.specs.Layout.{is_open, is_valid}
-use Rattle.ckrt_checkpoint.specs.declared.config.Config.{Config}
+use Rattle.ckrt_stored.specs.Layout.{is_open, is_valid}
+use Rattle.ckrt_stored.specs.declared.config.Config.{Config}
 use Rattle.ckrt_disk.specs.declared.disk.Disk.{Ghosts}
 use Rattle.ckrt_disk.specs.declared.stopping.StoppingDisk.{StoppingDisk}
 use Rattle.ckrt_cli_disk.specs.Making.{Makes}
-use Rattle.ckrt_cli_faults.specs.declared.fault.JobFault.{JobFault}
-use Rattle.ckrt_cli_faults.specs.declared.fault.JobFault.TheVariants.{Format}
+use Rattle.ckrt_cli_reports.specs.declared.fault.JobFault.{JobFault}
+use Rattle.ckrt_cli_reports.specs.declared.fault.JobFault.TheVariants.{Format}
 use Rattle.ckrt_stored.specs.declared.fault.FormatFault.TheVariants.{AlreadyFormatted, BadConfig, Device, TooSmall}
 use Rattle.ckrt_witness.specs.Shelf.{image_of, openings_of}
 use Rattle.ckrt_witness.specs.declared.shelf.Shelf.{Shelf}

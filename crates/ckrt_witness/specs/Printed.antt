@@ -7,7 +7,7 @@ use Rattle.ckrt_events.specs.declared.event.Event.{Event}
 use Rattle.ckrt_cli_disk.specs.Printing.{HoldsEvents}
 use Rattle.ckrt_cli_disk.specs.Running.{IsUnrecovered, Serves, ServesAll}
 use Rattle.ckrt_main.specs.Service.{Processes}
-use Rattle.ckrt_cli_faults.specs.declared.fault.JobFault.TheVariants.{Recover}
+use Rattle.ckrt_cli_reports.specs.declared.fault.JobFault.TheVariants.{Recover}
 use Rattle.ckrt_recovery.specs.Represents.{Represents}
 use Rattle.ckrt_recovery.specs.declared.session.Session.{Session}
 use Rattle.ckrt_stored.specs.Programs.{Program}

@@ -1,13 +1,13 @@
 -- What meets the premises of the promise of many drives from the words on.
 use Rattle.std.specs.Prelude.{◌≡◌, ◌≢◌, ℕ, List, [], ◌∷◌, None, Some}
 use Rattle.ckrt_disk.specs.declared.disk.Disk.{Ghosts}
-use Rattle.ckrt_cli_faults.specs.Outside.{Outside}
+use Rattle.ckrt_cli_reports.specs.Outside.{Outside}
 use Rattle.ckrt_cli.specs.Performing.{Reach, RunsWords, Said}
 use Rattle.ckrt_schedule.specs.declared.schedule.Schedule.{Schedule}
 use Rattle.ckrt_cli_files.specs.declared.output.OpenedOutput.{OpenedOutput}
 use Rattle.ckrt_stored.specs.Programs.{Program, RecoversToStart}
 use Rattle.ckrt_cli_words.specs.Jobs.{Driving, drive, request_of_words}
-use Rattle.ckrt_cli_theorem.specs.Commands.{DriveIn, GoOn, Paths, Run, drive_in}
+use Rattle.ckrt_cli.specs.Commands.{DriveIn, GoOn, Paths, Run, drive_in}
 use Rattle.ckrt_witness.specs.Drives.{IsReopened}
 
 -- words ask for a drive of a disk that is there, with its output and its input in files

@@ -1,6 +1,6 @@
 -- What meets the premises of the laws of saved tables.
 use Rattle.std.specs.Prelude.{◌≡◌, ◌≢◌, ◌≤◌, ℕ, List, [], Some, None, take}
-use Rattle.ckrt_state.specs.WellFormed.{IsWellFormed}
+use Rattle.ckrt_calls.specs.WellFormed.{IsWellFormed}
 use Rattle.ckrt_tables.specs.Decoding.{DecodesTo, Saved}
 use Rattle.ckrt_tables.specs.Encoding.{AREA_VERSION, IsHeld}
 

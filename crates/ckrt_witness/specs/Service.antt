@@ -1,9 +1,9 @@
 -- What meets the premises of the promise "end to end without a stop".
 use Rattle.std.specs.Prelude.{◌≡◌, ◌≢◌, ◌<◌, ◌≤◌, ◌++◌, ℕ, true, false, Some, List, [], length}
-use Rattle.ckrt_checkpoint.specs.declared.config.Config.{Config}
+use Rattle.ckrt_stored.specs.declared.config.Config.{Config}
 use Rattle.ckrt_disk.specs.Disk.{HasFailed}
 use Rattle.ckrt_disk.specs.declared.disk.Disk.{Ghosts}
-use Rattle.ckrt_commands.specs.Transcript.{accepted_events, view_after}
+use Rattle.ckrt_main.specs.Transcript.{accepted_events, view_after}
 use Rattle.ckrt_main.specs.Service.{IsStartFault, Served, ServedPart}
 use Rattle.ckrt_main.specs.declared.fault.ServeFault.{ServeFault}
 use Rattle.ckrt_recovery.specs.View.{View, fresh, is_refused, view_of}

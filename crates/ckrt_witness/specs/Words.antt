@@ -1,7 +1,7 @@
 -- What meets the premises of the clauses on runs by their words that make a disk, tell the version, or name no job.
 use Rattle.std.specs.Prelude.{◌≡◌, ◌≢◌, ℕ, false, List, [], Some}
 use Rattle.ckrt_disk.specs.declared.disk.Disk.{Ghosts}
-use Rattle.ckrt_cli_faults.specs.Outside.{Outside}
+use Rattle.ckrt_cli_reports.specs.Outside.{Outside}
 use Rattle.ckrt_cli.specs.Performing.{Reach, RunsWords, Said}
 use Rattle.ckrt_cli_words.specs.Jobs.{Formatting, asks_version, format, request_of_words, version}
 

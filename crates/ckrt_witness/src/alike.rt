@@ -1,7 +1,7 @@
 //! Sessions of one program over two disks, as the laws of what they answer alike speak of them.
 ghost use Rattle.std.specs.Prelude.{◌≡◌, ◌≢◌, ◌==◌, ◌∷◌, List, [], None, IfSome, false, true};
 ghost use Rattle.std.specs.List.{list_any};
-ghost use Rattle.ckrt_commands.specs.Transcript.{transcript};
+ghost use Rattle.ckrt_main.specs.Transcript.{transcript};
 ghost use Rattle.ckrt_events.specs.Bytes.{IsInRange};
 ghost use Rattle.ckrt_events.specs.declared.event.Event.{Event};
 ghost use Rattle.ckrt_main.specs.Alike.{NoneIsLocal};

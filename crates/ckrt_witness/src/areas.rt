@@ -1,13 +1,12 @@
 //! Disks whose areas are written, as the laws of what an image recovers to speak of them.
 ghost use Rattle.std.specs.Prelude.{◌≡◌, ◌≢◌, ◌≤◌, ◌+◌, ◌∷◌, [], Ok, is_err, IfOk, drop, take, false, true};
-ghost use Rattle.ckrt_checkpoint.specs.Layout.{is_open};
+ghost use Rattle.ckrt_stored.specs.Layout.{is_open};
 ghost use Rattle.ckrt_disk.specs.Frame.{IsOnlyRead};
 ghost use Rattle.ckrt_stored.specs.Recovery.{Recovered, Recovers};
 ghost use Rattle.ckrt_witness.specs.Areas.{FrameWitness, SwitchWitness};
 
-use ckrt_checkpoint::{FIELDS_AT, OPEN, read_header};
 use ckrt_disk::{DeviceFault, Disk, write_synced};
-use ckrt_stored::read_in_use;
+use ckrt_stored::{FIELDS_AT, OPEN, read_header, read_in_use};
 
 /// Whether another byte stands at an offset of a disk.
 fn has_other<D: Disk>(disk: &mut D, at: usize, byte: u8) -> Result<bool, DeviceFault>

@@ -5,7 +5,7 @@ ghost use Rattle.ckrt_recovery.specs.Opening.{IsSyncedAndRead};
 ghost use Rattle.ckrt_witness.specs.Before.{BeforeWitness, StoppedBefore};
 
 use ckrt_disk::Disk;
-use ckrt_record::read_offset;
+use ckrt_drive::read_offset;
 use ckrt_recovery::{RecoverFault, recover};
 use std::alloc::Global;
 

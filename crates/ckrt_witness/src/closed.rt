@@ -2,7 +2,7 @@
 //! witness by coming to its end.
 ghost use Rattle.std.specs.Prelude.{◌≡◌, ◌≢◌, ℕ, List, [], None, Ok, Some};
 ghost use Rattle.ckrt_machine.specs.Steps.{State};
-ghost use Rattle.ckrt_record.specs.Offset.{offset_from};
+ghost use Rattle.ckrt_drive.specs.Offset.{offset_from};
 ghost use Rattle.ckrt_stored.specs.Programs.{Program, RecoversToStart};
 ghost use Rattle.ckrt_witness.specs.Drives.{Drove, Witness};
 ghost use Rattle.ckrt_witness.specs.Power.{PowerWitness};
@@ -12,10 +12,9 @@ use crate::drives::{Left, drive_once, two_drives};
 use crate::power::{commit_one, save_one};
 use crate::turns::make_turns;
 use ckrt_disk::{Disk, MemoryDisk, StoppingDisk};
-use ckrt_drive::{DriveFault, Options};
+use ckrt_drive::{DriveFault, Options, RECORD_BYTES, read_offset};
 use ckrt_events::Event;
 use ckrt_machine::Machine;
-use ckrt_record::{RECORD_BYTES, read_offset};
 use ckrt_recovery::Config;
 use ckrt_schedule::ScheduleEnd;
 use ckrt_stored::format;

@@ -5,8 +5,8 @@ ghost use Rattle.ckrt_witness.specs.Lives.{LivesWitness};
 use crate::closed::{SMALL, copied};
 use crate::closed_machine::WAITERS;
 use crate::lives::live_four_times;
-use ckrt_commands::Life;
 use ckrt_events::{Command, Event};
+use ckrt_main::Life;
 use ckrt_recovery::Config;
 use std::process::Abort;
 

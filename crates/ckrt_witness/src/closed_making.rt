@@ -1,14 +1,14 @@
 //! A closed witness of the making of a disk. What stops a test meets any clause, so it shows its witness by coming to its end.
 ghost use Rattle.std.specs.Prelude.{◌≡◌, Err, Ok, false, true};
-ghost use Rattle.ckrt_checkpoint.specs.Layout.{is_open, is_valid};
-ghost use Rattle.ckrt_cli_faults.specs.declared.fault.JobFault.TheVariants.{Format};
+ghost use Rattle.ckrt_stored.specs.Layout.{is_open, is_valid};
+ghost use Rattle.ckrt_cli_reports.specs.declared.fault.JobFault.TheVariants.{Format};
 ghost use Rattle.ckrt_stored.specs.declared.fault.FormatFault.{FormatFault};
 ghost use Rattle.ckrt_witness.specs.Making.{Made, MakingWitness};
 
 use crate::closed::{SMALL, formatted, stopping_disk};
 use crate::closed_machine::WAITERS;
 use crate::making::{make_one, refuse_one};
-use ckrt_cli_faults::JobFault;
+use ckrt_cli_reports::JobFault;
 use ckrt_disk::{Disk, StoppingDisk};
 use ckrt_recovery::{Config, FormatFault};
 use std::process::Abort;

@@ -1,6 +1,6 @@
 //! Refusals and faults, as the promise "safe and total" speaks of them.
 ghost use Rattle.std.specs.Prelude.{◌≡◌, ◌<◌, IfSome, length, true};
-ghost use Rattle.ckrt_checkpoint.specs.Layout.{is_valid, memory_size};
+ghost use Rattle.ckrt_stored.specs.Layout.{is_valid, memory_size};
 ghost use Rattle.ckrt_events.specs.Bytes.{IsInRange};
 ghost use Rattle.ckrt_stored.specs.Recovery.{AgreesOnFault, Recovers};
 ghost use Rattle.ckrt_witness.specs.Faults.{FailsCommit, HasEachFault, IsLastGeneration, IsRefused};

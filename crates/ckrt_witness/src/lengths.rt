@@ -1,10 +1,10 @@
 //! A drive that comes to its end, as the law of how long the file of its output is speaks of it.
 ghost use Rattle.std.specs.Prelude.{◌≡◌, ◌<◌, IfSome, true};
-ghost use Rattle.ckrt_cli_faults.specs.Lengths.{fits, lengths_of};
+ghost use Rattle.ckrt_cli_reports.specs.Lengths.{fits, lengths_of};
 ghost use Rattle.ckrt_stored.specs.Programs.{Program, RecoversToStart};
 ghost use Rattle.ckrt_witness.specs.Lengths.{LengthWitness};
 
-use ckrt_cli_faults::OutputLengths;
+use ckrt_cli_reports::OutputLengths;
 use ckrt_disk::Disk;
 use ckrt_drive::{Drive, FromDisk, Nobody, Options};
 use ckrt_recovery::{Session, recover};

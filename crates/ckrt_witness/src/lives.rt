@@ -1,10 +1,10 @@
 //! Lives of a program, as the promise of many lives speaks of them.
 ghost use Rattle.std.specs.Prelude.{◌≡◌, ◌-◌, All, IfSome, IsTrue, true, slice_index};
-ghost use Rattle.ckrt_commands.specs.Lives.{IsInRangeLife, Releases};
+ghost use Rattle.ckrt_main.specs.Lives.{IsInRangeLife, Releases};
 ghost use Rattle.ckrt_stored.specs.Programs.{formatted_program};
 ghost use Rattle.ckrt_witness.specs.Lives.{AreStopped, FourLives, FourReports, HaveRecovered, LivesWitness};
 
-use ckrt_commands::{Life, LifeReport, lives};
+use ckrt_main::{Life, LifeReport, lives};
 use ckrt_recovery::Config;
 use std::alloc::Global;
 

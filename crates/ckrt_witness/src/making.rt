@@ -4,7 +4,7 @@ ghost use Rattle.ckrt_witness.specs.Making.{Made};
 
 use crate::shelf::Shelf;
 use ckrt_cli_disk::make_disk;
-use ckrt_cli_faults::JobFault;
+use ckrt_cli_reports::JobFault;
 use ckrt_disk::{Disk, StoppingDisk};
 use ckrt_recovery::Config;
 use std::alloc::Global;

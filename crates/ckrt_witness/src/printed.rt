@@ -10,7 +10,7 @@ ghost use Rattle.ckrt_witness.specs.Printed.{PrintedWitness, ToldWitness, Unreco
 
 use crate::service::are_some;
 use ckrt_cli_disk::run_disk;
-use ckrt_cli_faults::JobFault;
+use ckrt_cli_reports::JobFault;
 use ckrt_disk::Disk;
 use ckrt_events::Event;
 use ckrt_main::serve;

@@ -3,7 +3,7 @@ ghost use Rattle.std.specs.Prelude.{◌⊎◌, ◌≡◌, ◌≤◌, length, tru
 ghost use Rattle.ckrt_tables.specs.Encoding.{TABLES_ROOM};
 ghost use Rattle.ckrt_witness.specs.Saved.{FreshWitness, SavedWitness};
 
-use ckrt_checkpoint::Config;
+use ckrt_stored::Config;
 use ckrt_tables::{decode_tables, encode_tables};
 use std::alloc::Global;
 

@@ -9,9 +9,9 @@ SMALLEST = Geometry(16, 1, 4096)
 GATE, NAME = slice(0, 8), slice(8, 16)  # of a file: its gate with the bytes behind it, and where a disk has its name
 
 
-def is_disk_already(before, size):
-    """A file that is as long as a disk, behind an open gate: one that gets longer needs a disk's name for that."""
-    return len(before) >= SMALLEST.size and before[0] == OPEN and (len(before) >= size or before[NAME] == MAGIC)
+def is_disk_already(before):
+    """A file that is as long as a disk, behind an open gate, with a disk's name."""
+    return len(before) >= SMALLEST.size and before[0] == OPEN and before[NAME] == MAGIC
 
 
 def may_be_written(before, size):
@@ -34,7 +34,7 @@ class FormatCase:
         if refusal is not None:
             return refusal, self.before
         before = self.before or b""
-        if not is_disk_already(before, self.geometry.size) and not may_be_written(before, self.geometry.size):
+        if not is_disk_already(before) and not may_be_written(before, self.geometry.size):
             return "NotADisk" if SWITCHES.programs else "File", self.before
         kept = before if len(before) >= SMALLEST.size else b""
         contents = bytearray(kept.ljust(self.geometry.size, b"\0"))

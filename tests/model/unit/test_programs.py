@@ -98,7 +98,7 @@ class Noted(unittest.TestCase):
 
     def test_no_disk(self):
         """What `format` leaves alone holds something that is no disk."""
-        for before, refusal in ((b"\1", "NotADisk"), (b"\0\1", "NotADisk"), (bytes(9), None), (bytes(self.disk), "AlreadyFormatted")):
+        for before, refusal in ((b"\1", "NotADisk"), (b"\0\1", "NotADisk"), (b"\xa5" + bytes(SMALLEST.size), "NotADisk"), (bytes(9), None), (bytes(self.disk), "AlreadyFormatted")):
             case = FormatCase(SMALLEST, PUTS, before)
             self.assertEqual(case.outcome()[0], refusal)
         self.assertEqual(FormatCase(SMALLEST, PUTS, b"\1").outcome()[1], b"\1")

@@ -7,6 +7,7 @@ WRONG = {
     ],
     "cases/formats.py": [
         ('"NotADisk" if SWITCHES.programs else "File"', '"File"'),
+        (" and before[NAME] == MAGIC", ""),
     ],
     "model/recovery.py": [
         ("areas[generations.index(max(generations))]", "areas[generations.index(min(generations))]"),

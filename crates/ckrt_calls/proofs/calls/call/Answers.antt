@@ -1,5 +1,5 @@
 use Rattle.std.proofs.Common.{sym, subst}
-use Rattle.ckrt_state.specs.WellFormed.{IsWellFormed}
+use Rattle.ckrt_calls.specs.WellFormed.{IsWellFormed}
 use Rattle.ckrt_calls.proofs.Kept.{well_formed_called}
 use Rattle.ckrt_calls.proofs.calls.call.Goals as goal
 

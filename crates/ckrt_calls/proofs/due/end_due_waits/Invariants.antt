@@ -1,6 +1,6 @@
 use Rattle.std.proofs.Common.{◌≡◌, ◌+◌, ◌≤◌, length}
 use Rattle.ckrt_thread.specs.Deadlines.{due_waits}
-use Rattle.ckrt_state.specs.WellFormed.{IsWellFormed}
+use Rattle.ckrt_calls.specs.WellFormed.{IsWellFormed}
 use Rattle.ckrt_calls.specs.Table.{all_timed_out}
 use Rattle.ckrt_calls.proofs.due.end_due_waits.Given as goal
 

@@ -1,5 +1,5 @@
 use Rattle.std.proofs.Common.{sym, subst}
-use Rattle.ckrt_state.specs.WellFormed.{IsWellFormed}
+use Rattle.ckrt_calls.specs.WellFormed.{IsWellFormed}
 use Rattle.ckrt_calls.proofs.Ticks.{well_formed_timed_out}
 use Rattle.ckrt_calls.proofs.due.end_wait.Goals as goal
 

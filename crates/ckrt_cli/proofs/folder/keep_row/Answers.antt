@@ -1,7 +1,7 @@
 use Rattle.std.proofs.Common.{◌≡◌, get_or, inr, refl, subst, Some, Ok, Err}
 use Rattle.std.specs.Prelude.{slice_get}
 use Rattle.std.proofs.lemmas.Option.{slice_get-get_or}
-use Rattle.ckrt_checkpoint.specs.Layout.{size_needed}
+use Rattle.ckrt_stored.specs.Layout.{size_needed}
 use Rattle.ckrt_hunt_schedules.specs.Table.{unkept_text}
 use Rattle.ckrt_cli.specs.Hunting.{KeepsFound, TellsUnkept, reached, sought_in, sought_of}
 use Rattle.ckrt_cli.proofs.KeepLemmas.{found_weaker}

@@ -1,5 +1,5 @@
 use Rattle.std.proofs.Common.{rules, ◌≡◌, ◌∙◌, ◌⊎◌, ◌+◌, arith, inr, subst, sym, Err}
-use Rattle.ckrt_checkpoint.specs.Layout.{size_needed}
+use Rattle.ckrt_stored.specs.Layout.{size_needed}
 use Rattle.ckrt_hunt_schedules.specs.Tallies.{Hunted}
 use Rattle.ckrt_cli.specs.Hunting.{KeepsEach, KeptIfShown, LacksPath, NamesRow, folder_at, reached, sought_in}
 use Rattle.ckrt_cli.proofs.KeepLemmas.{kept_on, stopped}

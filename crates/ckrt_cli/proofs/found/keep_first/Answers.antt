@@ -1,5 +1,5 @@
 use Rattle.std.proofs.Common.{ℕ, inr, subst}
-use Rattle.ckrt_checkpoint.specs.Layout.{size_needed}
+use Rattle.ckrt_stored.specs.Layout.{size_needed}
 use Rattle.ckrt_hunt_schedules.specs.Tallies.{Hunted, hunted_of}
 use Rattle.ckrt_cli.specs.Hunting.{KeepsFound, reached, sought_by}
 use Rattle.ckrt_cli.proofs.found.keep_first.Goals as goal

@@ -1,9 +1,9 @@
 use Rattle.std.proofs.Common.{◌∙◌, ap, subst, List, Ok}
 use Rattle.std.specs.Prelude.{option_map}
-use Rattle.ckrt_checkpoint.specs.declared.config.Config.{Config}
+use Rattle.ckrt_stored.specs.declared.config.Config.{Config}
 use Rattle.ckrt_hunt_schedules.specs.declared.row.Row.{Row}
 use Rattle.ckrt_hunt_schedules.specs.Tallies.{hunted_of}
-use Rattle.ckrt_checkpoint.specs.Layout.{size_needed}
+use Rattle.ckrt_stored.specs.Layout.{size_needed}
 use Rattle.ckrt_cli.specs.Hunting.{KeepsAt, answer_of, place_of, reached, sought_by}
 use Rattle.ckrt_cli.proofs.hunting.hunt_image.Goals as goal
 

@@ -2,7 +2,7 @@ use Rattle.std.proofs.Common.{rules, ◌≡◌, ◌∙◌, ℕ, List, true, Err,
 use Rattle.std.specs.Prelude.{option_map}
 use Rattle.ckrt_cli_words.specs.Jobs.{hunting_of}
 use Rattle.ckrt_cli_disk.specs.Making.{IsFit}
-use Rattle.ckrt_cli_faults.specs.Ranges.{is_hunt_in_range}
+use Rattle.ckrt_cli_reports.specs.Ranges.{is_hunt_in_range}
 use Rattle.ckrt_hunt_schedules.specs.declared.table.Asked.{Asked}
 use Rattle.ckrt_cli.specs.Hunting.{EndsHunt, Hunter, kept_size, reached, wanted_of}
 use Rattle.ckrt_cli.specs.Inputs.{EndsOnAskedInput, IsAskedInput, with_asked_input}

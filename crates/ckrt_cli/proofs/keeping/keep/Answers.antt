@@ -1,5 +1,5 @@
 use Rattle.std.proofs.Common.{sym, subst}
-use Rattle.ckrt_checkpoint.specs.Layout.{size_needed}
+use Rattle.ckrt_stored.specs.Layout.{size_needed}
 use Rattle.ckrt_cli.proofs.KeepLemmas.{keeps_made}
 use Rattle.ckrt_cli.proofs.keeping.keep.Goals as goal
 

@@ -1,5 +1,5 @@
 use Rattle.std.proofs.Common.{◌≡◌, ◌∙◌, ℕ, List, length, ap, subst, inr, rules}
-use Rattle.ckrt_look_core_file.specs.Core.{core_of}
+use Rattle.ckrt_gdb_forms.specs.Core.{core_of}
 use Rattle.ckrt_cli_disk.specs.CoreFiles.{WritesInto}
 use Rattle.ckrt_cli_disk.proofs.core_file.make_core.Goals as goal
 

@@ -1,6 +1,6 @@
 use Rattle.std.proofs.Common.{rules, ◌≡◌, true}
 use Rattle.ckrt_cli_words.specs.Jobs.{driving_of}
-use Rattle.ckrt_cli_faults.specs.Ranges.{is_in_range}
+use Rattle.ckrt_cli_reports.specs.Ranges.{is_in_range}
 use Rattle.ckrt_cli_disk.proofs.DriveLemmas.{found_driven}
 use Rattle.ckrt_cli_disk.proofs.driving.drive_path.Goals as goal
 

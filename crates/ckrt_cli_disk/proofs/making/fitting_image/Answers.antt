@@ -1,5 +1,5 @@
 use Rattle.std.proofs.Common.{rules, ◌≡◌, ◌∙◌, ◌<◌, ◌≤◌, List, ap, false, inr, length, subst, sym, ℕ}
-use Rattle.ckrt_checkpoint.specs.Layout.{memory_size}
+use Rattle.ckrt_stored.specs.Layout.{memory_size}
 use Rattle.ckrt_cli_files.specs.Elf.{is_elf}
 use Rattle.ckrt_cli_disk.proofs.FrontLemmas.{front_longer, front_tells_elf, front_whole}
 use Rattle.ckrt_cli_disk.proofs.making.fitting_image.Goals as goal

@@ -1,5 +1,5 @@
 use Rattle.std.proofs.Common.{◌≡◌, ℕ, List, ◌∙◌, ap, subst, rules, true}
-use Rattle.ckrt_checkpoint.specs.Layout.{is_valid, size_needed}
+use Rattle.ckrt_stored.specs.Layout.{is_valid, size_needed}
 use Rattle.ckrt_cli_files.specs.Openings.{opened, with_disk, with_image}
 use Rattle.ckrt_cli_disk.specs.Making.{FormatsOpened}
 use Rattle.ckrt_cli_disk.proofs.MakingLemmas.{ends_formatted}

@@ -1,12 +1,12 @@
 use Rattle.std.proofs.Common.{rules, ◌≡◌, ◌+◌, ap, subst, inl, inr}
 use Rattle.std.specs.Option.{option_map}
-use Rattle.ckrt_checkpoint.specs.Layout.{size_needed}
+use Rattle.ckrt_stored.specs.Layout.{size_needed}
 use Rattle.ckrt_cli_words.specs.Jobs.{driving_of}
 use Rattle.ckrt_cli_disk.specs.Feeding.{made_size}
 use Rattle.ckrt_cli_disk.specs.Missing.{MakesMissing}
 use Rattle.ckrt_cli_disk.specs.Programs.{Compares}
 use Rattle.ckrt_cli_files.specs.Openings.{opened, refused, with_disk}
-use Rattle.ckrt_cli_faults.specs.Ranges.{config_for}
+use Rattle.ckrt_cli_reports.specs.Ranges.{config_for}
 use Rattle.ckrt_cli_files.specs.declared.file.FileFault.{FileFault}
 use Rattle.ckrt_cli_files.specs.declared.file.FileFault.TheVariants.{NotFound}
 use Rattle.ckrt_cli_disk.proofs.MissingLemmas.{compares_same, makes_weaker}

@@ -8,7 +8,7 @@ use Rattle.ckrt_main.specs.Service.{Served}
 use Rattle.ckrt_main.specs.declared.fault.ServeFault.{ServeFault}
 use Rattle.ckrt_recovery.specs.View.{View, opened, view_of}
 use Rattle.ckrt_cli_disk.specs.Running.{IsOfStream, RunsDisk}
-use Rattle.ckrt_cli_faults.specs.declared.fault.JobFault.TheVariants.{Serve}
+use Rattle.ckrt_cli_reports.specs.declared.fault.JobFault.TheVariants.{Serve}
 use Rattle.ckrt_cli_disk.proofs.RunLemmas.{serves, serves_all}
 use Rattle.ckrt_cli_disk.proofs.running.run_disk.Goals as goal
 

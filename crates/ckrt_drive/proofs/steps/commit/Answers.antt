@@ -1,4 +1,4 @@
-use Rattle.ckrt_record.specs.Keeping.{IsCommit}
+use Rattle.ckrt_drive.specs.Keeping.{IsCommit}
 use Rattle.ckrt_drive.proofs.FeedLemmas.{commit_feeds}
 use Rattle.ckrt_drive.proofs.SaveLemmas.{advances_commit, advances_failed}
 use Rattle.ckrt_drive.proofs.steps.commit.Goals as goal

@@ -1,6 +1,6 @@
 use Rattle.std.proofs.Common.{rules, arith}
 use Rattle.std.proofs.lemmas.Grind.{common_steps}
-use Rattle.ckrt_gdb_packets.proofs.NumberLemmas.{number_text-digit, number_text-more}
+use Rattle.ckrt_gdb_forms.proofs.NumberLemmas.{number_text-digit, number_text-more}
 use Rattle.ckrt_gdb_playback.proofs.bytes.+push_hex.Goals as goal
 
 pub returns-in_err-push_hex-clause-fits : goal.returns-in_err-push_hex-clause-fits

@@ -1,6 +1,6 @@
 use Rattle.std.proofs.Common.{ap, ◌∙◌}
 use Rattle.ckrt_gdb_playback.specs.Look.{fitting, registers_bytes}
-use Rattle.ckrt_gdb_packets.specs.Numbers.{hex_text}
+use Rattle.ckrt_gdb_forms.specs.Numbers.{hex_text}
 use Rattle.ckrt_gdb_playback.proofs.WordLemmas.{told}
 use Rattle.ckrt_gdb_playback.proofs.look.put_registers.Goals as goal
 

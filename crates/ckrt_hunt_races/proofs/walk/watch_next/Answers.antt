@@ -2,7 +2,7 @@ use Rattle.std.proofs.Common.{◌≡◌, ◌≤◌, ◌∙◌, None, ap, subst, 
 use Rattle.ckrt_machine.specs.Events.{After, refusal_of, step}
 use Rattle.ckrt_machine.specs.Steps.{State}
 use Rattle.ckrt_machine.proofs.Fixed.{same_harts}
-use Rattle.ckrt_state.specs.declared.table.Tables.{Tables}
+use Rattle.ckrt_calls.specs.declared.table.Tables.{Tables}
 use Rattle.ckrt_look_clocks.specs.Detection.{behind_all}
 use Rattle.ckrt_look_races.specs.Steps.{of_event}
 use Rattle.ckrt_hunt_schedules.specs.declared.made.Made.{Made}
@@ -50,8 +50,14 @@ returns-clause-alike c =
       harts = omega (arith, harts, c.requires.alike.harts);
     }
 
-pub returns-clause-size : goal.returns-clause-size
-returns-clause-size c = record {
+pub returns-clause-whole : goal.returns-clause-whole
+returns-clause-whole c = record {
   harts = ap (λ (a : After). a.state.tables.threads.hart_count) c.step-answer.ensures.step ∙ same_harts c.args.event.now c.args.whole.now.state;
-  bytes = c.step-answer.ensures.follows.size;
+  follows = c.step-answer.ensures.follows;
+}
+
+pub returns-clause-stepped : goal.returns-clause-stepped
+returns-clause-stepped c = record {
+  harts = ap (λ (s : State). s.tables.threads.hart_count) c.watch_event.ensures.state ∙ same_harts c.args.event.now c.args.stepped.now.state;
+  follows = c.watch_event.ensures.follows;
 }

@@ -1,15 +1,16 @@
-use Rattle.std.proofs.Common.{◌∙◌, arith, ap, length, sym, subst, refl}
-use Rattle.ckrt_machine.specs.Steps.{State}
+use Rattle.std.proofs.Common.{arith, sym, subst, refl}
+use Rattle.ckrt_memory.proofs.FollowLemmas.{follows_itself}
 use Rattle.ckrt_hunt_schedules.specs.declared.made.Made.{Made}
 use Rattle.ckrt_hunt_races.specs.RaceRuns.{HasSeen}
-use Rattle.ckrt_hunt_races.proofs.WalkLemmas.{seen_first, sees}
+use Rattle.ckrt_hunt_races.proofs.WalkLemmas.{gone_further, seen_first, sees}
 use Rattle.ckrt_hunt_races.proofs.walk.watch_run.Goals as goal
 
 pub events-init : goal.events-init
 events-init c = record {
   seen = subst (λ (m : Made). HasSeen c.args.plan.now c.args.whole.now.state m c.args.whole.now.state c.args.detector.now) (sym c.nothing-made.ensures) (seen_first c.args.plan.now c.args.whole.now.state c.args.detector.now c.requires.watched);
   alike = record { same = c.requires.same; turns = grind (arith, c.nothing-made.ensures); harts = c.requires.harts };
-  size = record { harts = refl; bytes = refl };
+  whole = record { harts = refl; follows = follows_itself _ };
+  stepped = record { harts = refl; follows = follows_itself _ };
 }
 
 pub next-requires : goal.next-requires
@@ -26,10 +27,8 @@ pub events-preserved : goal.events-preserved
 events-preserved c = record {
   seen = c.watch_next.ensures.seen c.args.whole.now.state c.events.invariant.seen;
   alike = c.watch_next.ensures.alike;
-  size = record {
-    harts = c.watch_next.ensures.size.harts ∙ c.events.invariant.size.harts;
-    bytes = c.watch_next.ensures.size.bytes ∙ c.events.invariant.size.bytes;
-  };
+  whole = gone_further _ _ _ c.events.invariant.whole c.watch_next.ensures.whole;
+  stepped = gone_further _ _ _ c.events.invariant.stepped c.watch_next.ensures.stepped;
 }
 
 pub events-smaller : goal.events-smaller
@@ -39,10 +38,7 @@ pub returns-in-End-clause-seen : goal.returns-in-End-clause-seen
 returns-in-End-clause-seen c = sees c.args.plan.now c.args.whole.now.state c.events.made c.events.whole.state c.events.detector _ c.events.invariant.seen (sym c.in-End.ensures.next)
 
 pub returns-in-End-clause-whole : goal.returns-in-End-clause-whole
-returns-in-End-clause-whole c = c.events.invariant.size
+returns-in-End-clause-whole c = c.events.invariant.whole
 
 pub returns-in-End-clause-stepped : goal.returns-in-End-clause-stepped
-returns-in-End-clause-stepped c = record {
-  harts = ap (λ (s : State). s.tables.threads.hart_count) c.events.invariant.alike.same ∙ c.events.invariant.size.harts;
-  bytes = ap (λ (s : State). length s.bytes) c.events.invariant.alike.same ∙ c.events.invariant.size.bytes;
-}
+returns-in-End-clause-stepped c = c.events.invariant.stepped

@@ -1,5 +1,5 @@
 use Rattle.std.proofs.Common.{◌-◌}
-use Rattle.ckrt_hunt_races.specs.RaceRuns.{AreAlike, HasSeen, IsSameSize}
+use Rattle.ckrt_hunt_races.specs.RaceRuns.{AreAlike, HasGoneOn, HasSeen}
 use Rattle.ckrt_hunt_races.proofs.walk.watch_run.Given as goal
 
 -- the run has come so far by its schedule, on both machines
@@ -7,7 +7,8 @@ abbrev pub invariant-events : goal.invariant-events
 invariant-events l = record {
   seen : HasSeen l.plan l.fn.whole.state l.made l.whole.state l.detector;
   alike : AreAlike l.made l.whole.state l.stepped.state;
-  size : IsSameSize l.fn.whole.state l.whole.state;
+  whole : HasGoneOn l.fn.whole l.whole;
+  stepped : HasGoneOn l.fn.stepped l.stepped;
 }
 
 -- the events that are left

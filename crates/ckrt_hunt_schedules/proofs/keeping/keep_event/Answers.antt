@@ -1,5 +1,5 @@
 use Rattle.std.proofs.Common.{◌∙◌, ap, arith}
-use Rattle.ckrt_state.specs.declared.table.Tables.{Tables}
+use Rattle.ckrt_calls.specs.declared.table.Tables.{Tables}
 use Rattle.ckrt_hunt_schedules.specs.Plans.{steps_made}
 use Rattle.ckrt_hunt_schedules.specs.Turns.{runner_of}
 use Rattle.ckrt_hunt_schedules.proofs.KeepLemmas.{goes_on_by}

@@ -1,4 +1,6 @@
-use Rattle.std.proofs.Common.{◌≡◌, ◌≤◌, ◌-◌, length}
+use Rattle.std.proofs.Common.{◌≡◌, ◌≤◌, ◌-◌}
+use Rattle.ckrt_memory.specs.Marks.{Follows}
+use Rattle.ckrt_machine.specs.Events.{memory_in}
 use Rattle.ckrt_hunt_schedules.proofs.noting.note_turns.Given as goal
 
 -- as many turns as events at most, on the same machine
@@ -6,7 +8,7 @@ abbrev pub invariant-events : goal.invariant-events
 invariant-events l = record {
   turns : l.made.turns ≤ l.made.events;
   harts : l.machine.state.tables.threads.hart_count ≡ l.fn.machine.state.tables.threads.hart_count;
-  size : length l.machine.state.bytes ≡ length l.fn.machine.state.bytes;
+  follows : Follows (memory_in l.fn.machine) (memory_in l.machine);
 }
 
 -- the events that are left

@@ -1,6 +1,6 @@
 use Rattle.std.proofs.Common.{arith, ap, subst, ◌∙◌, ◌++◌, ℕ, List}
 use Rattle.ckrt_machine.specs.Events.{After}
-use Rattle.ckrt_state.specs.declared.table.Tables.{Tables}
+use Rattle.ckrt_calls.specs.declared.table.Tables.{Tables}
 use Rattle.ckrt_hunt_schedules.specs.Plans.{steps_made}
 use Rattle.ckrt_hunt_schedules.specs.Runs.{Hears}
 use Rattle.ckrt_hunt_schedules.specs.Turns.{runner_of}

@@ -1,4 +1,5 @@
 use Rattle.std.proofs.Common.{arith, sym, subst, refl, ◌∙◌}
+use Rattle.ckrt_memory.proofs.FollowLemmas.{follows_itself, follows_on}
 use Rattle.ckrt_hunt_schedules.specs.declared.made.Made.{Made}
 use Rattle.ckrt_hunt_schedules.specs.Runs.{HasComeTo}
 use Rattle.ckrt_hunt_schedules.proofs.RunLemmas.{comes_from, ends_with}
@@ -9,7 +10,7 @@ events-init c = record {
   come = subst (λ (m : Made). HasComeTo c.args.plan.now c.args.machine.now.state m c.args.machine.now.state c.nothing-heard.result) (sym c.nothing-made.ensures) (comes_from c.args.plan.now c.args.machine.now.state c.nothing-heard.result c.nothing-heard.ensures);
   turns = grind (arith, c.nothing-made.ensures);
   harts = refl;
-  size = refl;
+  follows = follows_itself _;
 }
 
 pub go_on-requires : goal.go_on-requires
@@ -24,7 +25,7 @@ events-preserved c = record {
   come = c.go_on.ensures.come c.args.machine.now.state c.events.invariant.come;
   turns = c.go_on.ensures.turns;
   harts = c.go_on.ensures.harts ∙ c.events.invariant.harts;
-  size = c.go_on.ensures.size ∙ c.events.invariant.size;
+  follows = follows_on _ _ _ c.events.invariant.follows c.go_on.ensures.follows;
 }
 
 pub events-smaller : goal.events-smaller

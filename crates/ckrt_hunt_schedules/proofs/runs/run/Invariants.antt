@@ -1,4 +1,6 @@
-use Rattle.std.proofs.Common.{◌≡◌, ◌≤◌, ◌-◌, length}
+use Rattle.std.proofs.Common.{◌≡◌, ◌≤◌, ◌-◌}
+use Rattle.ckrt_memory.specs.Marks.{Follows}
+use Rattle.ckrt_machine.specs.Events.{memory_in}
 use Rattle.ckrt_hunt_schedules.specs.Runs.{HasComeTo}
 use Rattle.ckrt_hunt_schedules.proofs.runs.run.Given as goal
 
@@ -8,7 +10,7 @@ invariant-events l = record {
   come : HasComeTo l.plan l.fn.machine.state l.made l.machine.state l.heard;
   turns : l.made.turns ≤ l.made.events;
   harts : l.machine.state.tables.threads.hart_count ≡ l.fn.machine.state.tables.threads.hart_count;
-  size : length l.machine.state.bytes ≡ length l.fn.machine.state.bytes;
+  follows : Follows (memory_in l.fn.machine) (memory_in l.machine);
 }
 
 -- the events that are left

@@ -1,7 +1,7 @@
 use Rattle.std.proofs.Common.{◌≡◌, ◌-◌, ℕ, suc, slice_get, Some, sym, subst, ◌∙◌, arith}
 use Rattle.std.proofs.lemmas.Result.{on_ok_weaker}
 use Rattle.std.specs.Io.KnownBytes.{Appends}
-use Rattle.ckrt_look_counts.specs.declared.row.Base.{Base}
+use Rattle.ckrt_look_profile.specs.declared.row.Base.{Base}
 use Rattle.ckrt_look_profile.specs.Texts.{base_text}
 use Rattle.ckrt_look_profile.proofs.FrameLemmas.{frames_both}
 use Rattle.ckrt_look_profile.proofs.folded.+write_base.Goals as goal

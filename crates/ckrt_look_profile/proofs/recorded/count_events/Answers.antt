@@ -6,7 +6,7 @@ use Rattle.ckrt_machine.specs.Events.{step}
 use Rattle.ckrt_machine.specs.Refusals.{refusal_of}
 use Rattle.ckrt_events.specs.Bytes.{IsInRange}
 use Rattle.ckrt_look_recording.proofs.WayLemmas.{HasComeTo, come_next, next_ahead}
-use Rattle.ckrt_look_counts.specs.Counts.{Counts, behind_all}
+use Rattle.ckrt_look_profile.specs.Counts.{Counts, behind_all}
 use Rattle.ckrt_look_profile.specs.Steps.{of_event, of_events}
 use Rattle.ckrt_look_profile.proofs.BehindLemmas.{behind_both}
 use Rattle.ckrt_look_profile.proofs.recorded.count_events.Goals as goal

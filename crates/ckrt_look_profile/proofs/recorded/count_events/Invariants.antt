@@ -1,6 +1,6 @@
 use Rattle.std.proofs.Common.{◌≡◌, drop}
 use Rattle.ckrt_look_recording.proofs.WayLemmas.{HasComeTo}
-use Rattle.ckrt_look_counts.specs.Counts.{behind_all}
+use Rattle.ckrt_look_profile.specs.Counts.{behind_all}
 use Rattle.ckrt_look_profile.specs.Steps.{of_events}
 use Rattle.ckrt_look_profile.proofs.recorded.count_events.Given as goal
 

@@ -1,7 +1,7 @@
 use Rattle.std.proofs.Common.{◌≡◌, ◌∙◌, ap, subst}
 use Rattle.std.proofs.lemmas.Result.{on_ok_weaker}
 use Rattle.std.specs.Io.KnownBytes.{Appends}
-use Rattle.ckrt_look_counts.specs.Counts.{Counts, behind_all, nothing}
+use Rattle.ckrt_look_profile.specs.Counts.{Counts, behind_all, nothing}
 use Rattle.ckrt_look_profile.specs.Steps.{notes}
 use Rattle.ckrt_look_profile.specs.Texts.{profile_text}
 use Rattle.ckrt_look_profile.proofs.recorded.write_profile.Goals as goal

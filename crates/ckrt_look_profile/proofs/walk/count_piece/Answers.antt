@@ -2,10 +2,10 @@ use Rattle.std.proofs.Common.{◌≡◌, ◌∙◌, ◌+◌, ◌-◌, ◌∷◌,
 use Rattle.ckrt_machine.specs.Runs.{after_steps}
 use Rattle.ckrt_machine.specs.Steps.{State, hart_of}
 use Rattle.ckrt_look_calls.proofs.RunLemmas.{is_going}
-use Rattle.ckrt_look_counts.specs.declared.counts.Note.{Note}
-use Rattle.ckrt_look_counts.specs.declared.counts.Note.TheVariants as note
-use Rattle.ckrt_look_counts.specs.declared.counts.Step.{Step}
-use Rattle.ckrt_look_counts.specs.Counts.{Counts, behind, behind_all, onward}
+use Rattle.ckrt_look_profile.specs.declared.counts.Note.{Note}
+use Rattle.ckrt_look_profile.specs.declared.counts.Note.TheVariants as note
+use Rattle.ckrt_look_profile.specs.declared.counts.Step.{Step}
+use Rattle.ckrt_look_profile.specs.Counts.{Counts, behind, behind_all, onward}
 use Rattle.ckrt_look_profile.specs.Leaving.{addresses}
 use Rattle.ckrt_look_profile.specs.Steps.{step_by}
 use Rattle.ckrt_look_profile.proofs.LeavingLemmas.{at_leaving, at_once, made_counted, made_state, met_at_calls, quiet_noted, same_thread}

@@ -1,6 +1,6 @@
 use Rattle.std.proofs.Common.{◌≡◌, ◌∙◌, ◌-◌, ℕ, suc, ap, arith}
 use Rattle.ckrt_look_calls.proofs.RunLemmas.{run_is}
-use Rattle.ckrt_look_counts.specs.Counts.{Counts, behind_all}
+use Rattle.ckrt_look_profile.specs.Counts.{Counts, behind_all}
 use Rattle.ckrt_look_profile.specs.Steps.{of_rest}
 use Rattle.ckrt_look_profile.proofs.WalkLemmas.{run_counted}
 use Rattle.ckrt_look_profile.proofs.walk.count_run.Goals as goal

@@ -1,6 +1,6 @@
 use Rattle.std.proofs.Common.{◌≡◌, ◌-◌, ◌≤◌}
 use Rattle.ckrt_look_calls.specs.Events.{state_behind}
-use Rattle.ckrt_look_counts.specs.Counts.{behind_all}
+use Rattle.ckrt_look_profile.specs.Counts.{behind_all}
 use Rattle.ckrt_look_profile.specs.Steps.{of_rest}
 use Rattle.ckrt_look_profile.proofs.walk.count_steps.Given as goal
 

@@ -1,5 +1,5 @@
 use Rattle.std.proofs.Common.{◌≡◌, drop}
-use Rattle.ckrt_look_counts.specs.Counts.{behind_all}
+use Rattle.ckrt_look_profile.specs.Counts.{behind_all}
 use Rattle.ckrt_look_profile.specs.Steps.{looks}
 use Rattle.ckrt_look_profile.proofs.walk.count_waits.Given as goal
 

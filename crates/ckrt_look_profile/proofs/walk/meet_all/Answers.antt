@@ -1,5 +1,5 @@
 use Rattle.std.proofs.Common.{◌≡◌, ◌∙◌, ℕ, ap, arith}
-use Rattle.ckrt_look_counts.specs.Counts.{behind_all}
+use Rattle.ckrt_look_profile.specs.Counts.{behind_all}
 use Rattle.ckrt_look_profile.specs.Steps.{met_up_to}
 use Rattle.ckrt_look_profile.proofs.walk.meet_all.Goals as goal
 

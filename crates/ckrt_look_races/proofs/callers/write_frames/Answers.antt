@@ -1,6 +1,6 @@
 use Rattle.std.proofs.Common.{◌≡◌, ◌<◌, ◌-◌, List, ℕ, Some, None, subst, rules}
 use Rattle.ckrt_look_calls.proofs.AppendLemmas.{Completes, completes_all, completes_more}
-use Rattle.ckrt_look_callers.specs.Frames.{next_frame}
+use Rattle.ckrt_look_recording.specs.Frames.{next_frame}
 use Rattle.ckrt_look_races.specs.Moments.{caller_line, caller_lines}
 use Rattle.ckrt_look_races.proofs.CallerLemmas.{no_more, one_more}
 use Rattle.ckrt_look_races.proofs.callers.write_frames.Goals as goal

@@ -1,4 +1,5 @@
 use Rattle.std.proofs.Common.{◌≡◌, ◌∙◌, ◌-◌, ℕ, suc, ap, arith}
+use Rattle.ckrt_memory.proofs.FollowLemmas.{follows_on}
 use Rattle.ckrt_look_calls.proofs.RunLemmas.{run_is}
 use Rattle.ckrt_look_clocks.specs.Detection.{Watched, behind_all}
 use Rattle.ckrt_look_races.specs.Steps.{of_rest}
@@ -12,6 +13,9 @@ returns-clause-state c =
     let all : suc n ≡ c.args.limit = omega arith in
     let m = c.watch_step.new.machine in
     c.watch_steps.ensures.state ∙ run_is n c.args.limit c.args.hart c.args.machine.now.state m.state m.output all c.watch_step.ensures.state c.watch_step.ensures.output
+
+pub returns-clause-follows : goal.returns-clause-follows
+returns-clause-follows c = follows_on _ _ _ c.watch_step.ensures.follows c.watch_steps.ensures.follows
 
 pub returns-clause-watched : goal.returns-clause-watched
 returns-clause-watched c =

@@ -1,4 +1,5 @@
-use Rattle.std.proofs.Common.{◌≡◌, ◌∙◌, ◌+◌, ◌-◌, ℕ, suc, None, ap, sym, arith}
+use Rattle.std.proofs.Common.{◌≡◌, ◌∙◌, ◌+◌, ◌-◌, ℕ, suc, None, refl, ap, sym, arith}
+use Rattle.ckrt_memory.proofs.FollowLemmas.{follows_itself, follows_on}
 use Rattle.ckrt_machine.specs.Runs.{stop_of, with_byte}
 use Rattle.ckrt_machine.specs.Steps.{State, hart_step}
 use Rattle.ckrt_look_calls.specs.Events.{state_behind}
@@ -8,6 +9,15 @@ use Rattle.ckrt_look_races.specs.Steps.{at, of_rest, of_step}
 use Rattle.ckrt_look_races.proofs.BehindLemmas.{behind_both}
 use Rattle.ckrt_look_races.proofs.WalkLemmas.{rest_next}
 use Rattle.ckrt_look_races.proofs.walk.watch_steps.Goals as goal
+
+-- no step yet
+pub loop-step-init : goal.loop-step-init
+loop-step-init c = record {
+  within = c.requires;
+  state = refl;
+  follows = follows_itself _;
+  watched = refl;
+}
 
 -- one step more
 pub loop-step-preserved : goal.loop-step-preserved
@@ -40,5 +50,6 @@ loop-step-preserved c =
     record {
       within = omega arith;
       state = is ∙ so_far.state;
+      follows = follows_on _ _ _ so_far.follows c.watch_step.ensures.follows;
       watched = ap (λ (v : Watched). behind_all (of_rest k n (i + 1) h new.state new.output) v) c.watch_step.ensures.watched ∙ sym parts ∙ so_far.watched;
     }

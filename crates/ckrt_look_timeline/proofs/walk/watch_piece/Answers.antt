@@ -1,5 +1,5 @@
 use Rattle.std.proofs.Common.{rules, ◌≡◌, ◌∙◌, ◌+◌, ◌++◌, get_or, replicate, ap}
-use Rattle.ckrt_state.specs.declared.table.Tables.{Tables}
+use Rattle.ckrt_calls.specs.declared.table.Tables.{Tables}
 use Rattle.ckrt_look_timeline.specs.declared.piece.Activity.{Activity}
 use Rattle.ckrt_look_timeline.specs.declared.piece.Activity.TheVariants as activity
 use Rattle.ckrt_look_timeline.specs.Activities.{activity_of}

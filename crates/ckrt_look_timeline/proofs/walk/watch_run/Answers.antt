@@ -1,7 +1,7 @@
 use Rattle.std.proofs.Common.{◌≡◌, ◌∙◌, ◌+◌, ◌-◌, ◌∷◌, ◌++◌, [], ℕ, suc, get_or, ap, append_assoc, arith}
 use Rattle.std.proofs.lemmas.Result.{on_ok_weaker}
 use Rattle.ckrt_machine.specs.Runs.{run_on}
-use Rattle.ckrt_state.specs.declared.table.Tables.{Tables}
+use Rattle.ckrt_calls.specs.declared.table.Tables.{Tables}
 use Rattle.ckrt_look_calls.proofs.RunLemmas.{run_is}
 use Rattle.ckrt_look_calls.specs.Events.{state_behind}
 use Rattle.ckrt_look_timeline.specs.declared.piece.Activity.{Activity}

@@ -1,5 +1,5 @@
 use Rattle.std.proofs.Common.{◌≡◌, ◌≤◌, None}
-use Rattle.ckrt_state.specs.WellFormed.{IsWellFormed}
+use Rattle.ckrt_calls.specs.WellFormed.{IsWellFormed}
 use Rattle.ckrt_machine.specs.Runs.{stop_of}
 use Rattle.ckrt_machine.specs.RunsTo.{run_to}
 use Rattle.ckrt_machine.specs.Stores.{stored_in_run}

@@ -1,9 +1,9 @@
 use Rattle.std.proofs.Common.{◌≡◌, ◌<◌, ◌+◌, ◌++◌, ℕ, List, [], length, take, drop, min, arith, rules, refl, sym, ap, subst, ◌∙◌, append-nil}
 use Rattle.std.proofs.lemmas.List.{nil_from_length}
 use Rattle.std.specs.Io.KnownBytes.{Appends}
-use Rattle.ckrt_commands.specs.Replies.{Reply, line_of, outputs}
+use Rattle.ckrt_main.specs.Replies.{Reply, line_of, outputs}
 use Rattle.ckrt_disk.specs.Writing.{AppendsPart}
-use Rattle.ckrt_commands.proofs.TellLemmas.{tells_nothing}
+use Rattle.ckrt_main.proofs.TellLemmas.{tells_nothing}
 use Rattle.ckrt_disk.proofs.WriteLemmas.{on_err}
 use Rattle.ckrt_main.specs.Service.{Writes}
 use Rattle.ckrt_main.proofs.OutputLemmas.{line_more, line_broken}

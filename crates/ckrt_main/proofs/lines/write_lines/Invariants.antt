@@ -1,5 +1,5 @@
 use Rattle.std.proofs.Common.{◌≡◌, ◌+◌, ◌++◌, [], List, length}
-use Rattle.ckrt_commands.specs.Replies.{Reply, outputs}
+use Rattle.ckrt_main.specs.Replies.{Reply, outputs}
 use Rattle.ckrt_main.specs.Service.{Writes}
 use Rattle.ckrt_main.proofs.lines.write_lines.Given as goal
 

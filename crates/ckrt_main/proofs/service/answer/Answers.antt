@@ -1,11 +1,11 @@
 use Rattle.std.proofs.Common.{◌≡◌, ◌∙◌, false, Ok, Err, rules, refl, subst}
 use Rattle.std.specs.Io.KnownBytes.{Appends}
-use Rattle.ckrt_commands.specs.Pieces.{Answers, BreaksOff, ends}
-use Rattle.ckrt_commands.specs.Replies.{NotUnderstood, line_of}
-use Rattle.ckrt_commands.specs.Transcript.{respond}
+use Rattle.ckrt_main.specs.Pieces.{Answers, BreaksOff, ends}
+use Rattle.ckrt_main.specs.Replies.{NotUnderstood, line_of}
+use Rattle.ckrt_main.specs.Transcript.{respond}
 use Rattle.ckrt_disk.specs.Writing.{AppendsPart}
-use Rattle.ckrt_commands.proofs.ResponseLemmas.{half_said, said, says_still}
-use Rattle.ckrt_commands.proofs.TellLemmas.{tells_half, tells_one}
+use Rattle.ckrt_main.proofs.ResponseLemmas.{half_said, said, says_still}
+use Rattle.ckrt_main.proofs.TellLemmas.{tells_half, tells_one}
 use Rattle.ckrt_disk.proofs.WriteLemmas.{on_err}
 use Rattle.ckrt_main.specs.Service.{Writes}
 use Rattle.ckrt_main.proofs.service.answer.Goals as goal

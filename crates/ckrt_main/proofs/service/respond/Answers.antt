@@ -1,8 +1,8 @@
 use Rattle.std.proofs.Common.{subst}
 use Rattle.std.specs.Prelude.{IfOk, OnErr}
-use Rattle.ckrt_commands.specs.Transcript.{respond}
+use Rattle.ckrt_main.specs.Transcript.{respond}
 use Rattle.ckrt_main.specs.Service.{Writes}
-use Rattle.ckrt_commands.specs.Pieces.{Answers, BreaksOff}
+use Rattle.ckrt_main.specs.Pieces.{Answers, BreaksOff}
 use Rattle.ckrt_main.proofs.service.respond.Goals as goal
 
 pub returns-clause-ok : goal.returns-clause-ok

@@ -1,9 +1,9 @@
 use Rattle.std.proofs.Common.{◌≡◌, ◌<◌, ℕ, List, [], true, false, length, take, arith, subst, refl, inl, inr, ◌++◌}
 use Rattle.std.specs.Io.KnownBytes.{Consumes}
 use Rattle.std.specs.Str.Lines.{lines}
-use Rattle.ckrt_commands.specs.Transcript.{respond_all}
+use Rattle.ckrt_main.specs.Transcript.{respond_all}
 use Rattle.ckrt_main.specs.Service.{Writes}
-use Rattle.ckrt_commands.specs.Pieces.{Answers, BreaksOff}
+use Rattle.ckrt_main.specs.Pieces.{Answers, BreaksOff}
 use Rattle.ckrt_main.proofs.OutputLemmas.{Consumes-append}
 use Rattle.ckrt_main.proofs.ProcessLemmas.{all_at_end, all_at_quit, completes, consumed_at_end, consumes_nothing, part_at_end, part_at_start, part_more, part_so_far, processes, processes_whole, so_far_start, so_far_more, so_far_kept}
 use Rattle.ckrt_main.proofs.service.serve_lines.Goals as goal

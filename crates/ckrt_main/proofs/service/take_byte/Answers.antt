@@ -4,9 +4,9 @@ use Rattle.std.specs.Str.Lines.{strip_carriage_return}
 use Rattle.std.proofs.lemmas.Bool.{eqb-true}
 use Rattle.std.proofs.lemmas.Bool.Decides.{nat_tests}
 use Rattle.ckrt_events.specs.Line.{command_of}
-use Rattle.ckrt_commands.specs.Transcript.{respond}
+use Rattle.ckrt_main.specs.Transcript.{respond}
 use Rattle.ckrt_main.specs.Service.{Writes}
-use Rattle.ckrt_commands.specs.Pieces.{Answers, BreaksOff}
+use Rattle.ckrt_main.specs.Pieces.{Answers, BreaksOff}
 use Rattle.ckrt_main.proofs.LineLemmas.{is_open-more}
 use Rattle.ckrt_main.proofs.ProcessLemmas.{processed_newline, processed_newline_part, processed_byte, processed_full}
 use Rattle.ckrt_disk.proofs.WriteLemmas.{on_err}

@@ -1,11 +1,11 @@
 use Rattle.std.proofs.Common.{◌≡◌, ◌≢◌, ℕ, List, [], false, refl, length, rules, subst, sym}
 use Rattle.std.specs.Str.Lines.{lines}
 use Rattle.std.proofs.lemmas.List.{nil_from_length}
-use Rattle.ckrt_commands.specs.Transcript.{respond_all}
+use Rattle.ckrt_main.specs.Transcript.{respond_all}
 use Rattle.ckrt_recovery.specs.View.{view_of}
 use Rattle.ckrt_main.specs.Service.{Writes}
-use Rattle.ckrt_commands.specs.Pieces.{Answers, ends}
-use Rattle.ckrt_commands.proofs.PieceLemmas.{silent}
+use Rattle.ckrt_main.specs.Pieces.{Answers, ends}
+use Rattle.ckrt_main.proofs.PieceLemmas.{silent}
 use Rattle.ckrt_main.proofs.ProcessLemmas.{answers_last, broken_last}
 use Rattle.ckrt_disk.proofs.WriteLemmas.{on_err}
 use Rattle.ckrt_main.proofs.service.take_end.Goals as goal

@@ -1,5 +1,5 @@
 use Rattle.std.proofs.Common.{◌<◌, ◌∙◌, sym, ap, arith}
-use Rattle.ckrt_state.specs.declared.table.Tables.{Tables}
+use Rattle.ckrt_calls.specs.declared.table.Tables.{Tables}
 use Rattle.ckrt_schedule.proofs.SearchLemmas.{found, passed}
 use Rattle.ckrt_schedule.proofs.schedule.next_sought.Goals as goal
 

@@ -2,7 +2,7 @@ use Rattle.std.proofs.Common.{◌≤◌, ◌-◌, ◌∙◌, true, inl, is_err, 
 use Rattle.ckrt_disk.specs.Frame.{MayBeLeft, Nowhere}
 use Rattle.ckrt_disk.proofs.FrameLemmas.{failed_within, wider}
 use Rattle.ckrt_disk.proofs.Moments.{weaker}
-use Rattle.ckrt_checkpoint.specs.Layout.{is_open}
+use Rattle.ckrt_stored.specs.Layout.{is_open}
 use Rattle.ckrt_stored.proofs.FillLemmas.{both_parts, goes_on_closed}
 use Rattle.ckrt_stored.proofs.filling.fill_behind.Goals as goal
 

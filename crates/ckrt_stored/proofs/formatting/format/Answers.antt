@@ -1,6 +1,6 @@
 use Rattle.std.proofs.Common.{◌≡◌, ◌≤◌, ℕ, true, false, List, length, sym, ◌∙◌, ap, subst, arith, rules}
 use Rattle.std.proofs.lemmas.Grind.{same_number_lists}
-use Rattle.ckrt_checkpoint.specs.Layout.{is_open, size_needed}
+use Rattle.ckrt_stored.specs.Layout.{is_open, size_needed}
 use Rattle.ckrt_stored.specs.Fields.{IsFresh, fresh_memory}
 use Rattle.ckrt_disk.proofs.FrameLemmas.{failed_within}
 use Rattle.ckrt_stored.specs.Format.{FormatsAt, IsFormatted, calls_of, is_device}

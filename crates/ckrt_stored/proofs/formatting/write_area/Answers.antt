@@ -3,8 +3,8 @@ use Rattle.std.proofs.lemmas.Result.{on_ok_weaker}
 use Rattle.ckrt_disk.specs.Disk.{IsOverwritten}
 use Rattle.ckrt_disk.proofs.FrameLemmas.{failed_within}
 use Rattle.ckrt_tables.specs.Fresh.{fresh_bytes}
-use Rattle.ckrt_checkpoint.specs.Fields.{header_fields}
-use Rattle.ckrt_checkpoint.specs.Layout.{size_needed}
+use Rattle.ckrt_stored.specs.AreaFields.{header_fields}
+use Rattle.ckrt_stored.specs.Layout.{size_needed}
 use Rattle.ckrt_stored.specs.Fields.{fresh_header}
 use Rattle.ckrt_stored.specs.Format.{FormatsBehindGate}
 use Rattle.ckrt_stored.proofs.FormatLemmas.{fresh_area, first_part, next_part}

@@ -2,7 +2,7 @@ use Rattle.std.proofs.Common.{◌≡◌, ◌≤◌, ℕ, true, false, List, [], 
 use Rattle.std.proofs.lemmas.Result.{on_ok_weaker}
 use Rattle.ckrt_disk.specs.Disk.{IsOverwritten}
 use Rattle.ckrt_disk.proofs.FrameLemmas.{failed_within}
-use Rattle.ckrt_checkpoint.specs.Layout.{size_needed}
+use Rattle.ckrt_stored.specs.Layout.{size_needed}
 use Rattle.ckrt_stored.specs.Format.{FormatsBehindGate}
 use Rattle.ckrt_stored.proofs.FormatLemmas.{fields_length, is_fresh, some_pages, first_part, next_part}
 use Rattle.ckrt_stored.proofs.formatting.write_blocks.Goals as goal

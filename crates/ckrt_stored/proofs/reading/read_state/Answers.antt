@@ -3,9 +3,9 @@ use Rattle.ckrt_journal.specs.declared.journal.Journal.{Journal}
 use Rattle.ckrt_machine.specs.Steps.{State}
 use Rattle.ckrt_tables.specs.Decoding.{Saved}
 use Rattle.ckrt_memory.specs.Marks.{Memory}
-use Rattle.ckrt_checkpoint.specs.Holds.{BothStand}
-use Rattle.ckrt_checkpoint.specs.Areas.{is_known_version}
-use Rattle.ckrt_checkpoint.specs.Layout.{memory_of}
+use Rattle.ckrt_stored.specs.Holds.{BothStand}
+use Rattle.ckrt_stored.specs.Areas.{is_known_version}
+use Rattle.ckrt_stored.specs.Layout.{memory_of}
 use Rattle.ckrt_stored.specs.declared.fault.RecoverFault.TheVariants.{Damaged}
 use Rattle.ckrt_stored.specs.Recovery.{is_end_in_range, unreplayed}
 use Rattle.ckrt_stored.proofs.RecoverLemmas.{ok, small_journal}

@@ -1,4 +1,4 @@
-use Rattle.ckrt_state.specs.WellFormed.{IsWellFormed}
+use Rattle.ckrt_calls.specs.WellFormed.{IsWellFormed}
 use Rattle.ckrt_test_machine.proofs.calls.create_threads.Given as goal
 
 abbrev pub invariant-loop-id : goal.invariant-loop-id

@@ -3,8 +3,8 @@ use Rattle.std.proofs.lemmas.Bool.{not-true}
 use Rattle.std.specs.Prelude.{is_err}
 use Rattle.ckrt_disk.specs.Disk.{IsOverwritten, IsWithin}
 use Rattle.ckrt_disk.specs.Frame.{IsSameOutside}
-use Rattle.ckrt_checkpoint.specs.Layout.{area_at, header_of}
-use Rattle.ckrt_checkpoint.specs.declared.header.Header.{Header}
+use Rattle.ckrt_stored.specs.Layout.{area_at, header_of}
+use Rattle.ckrt_stored.specs.declared.header.Header.{Header}
 use Rattle.ckrt_disk.proofs.FrameLemmas.{where_ok}
 use Rattle.ckrt_witness.specs.Areas.{FrameWitness}
 use Rattle.ckrt_witness.proofs.AreaLemmas.{fields_inside, frame_met}

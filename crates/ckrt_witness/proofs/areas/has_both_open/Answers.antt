@@ -1,6 +1,6 @@
 use Rattle.std.proofs.Common.{◌≡◌, ◌∙◌, ◌-◌, ℕ, List, true, false, take, drop, sym, subst, ap, arith}
-use Rattle.ckrt_checkpoint.specs.Layout.{header_of, is_open, journal_at}
-use Rattle.ckrt_checkpoint.specs.declared.header.Header.{Header}
+use Rattle.ckrt_stored.specs.Layout.{header_of, is_open, journal_at}
+use Rattle.ckrt_stored.specs.declared.header.Header.{Header}
 use Rattle.ckrt_witness.proofs.AreaLemmas.{gate_inside, some_journal, switch_met}
 use Rattle.ckrt_witness.proofs.areas.has_both_open.Goals as goal
 

@@ -1,7 +1,7 @@
 use Rattle.std.proofs.Common.{◌≡◌, ℕ, List, None, Some, Ok, ◌∙◌, ap, subst}
 use Rattle.ckrt_disk.specs.contracts.memory.MemoryDiskDisk.TheImpl as memory
 use Rattle.ckrt_disk.specs.contracts.stopping.StoppingDiskDisk.TheImpl as stopping
-use Rattle.ckrt_record.specs.Offset.{offset_from}
+use Rattle.ckrt_drive.specs.Offset.{offset_from}
 use Rattle.ckrt_witness.specs.Drives.{Drove, Records}
 use Rattle.ckrt_witness.proofs.closed.drove.Goals as goal
 

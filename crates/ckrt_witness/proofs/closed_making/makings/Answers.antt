@@ -1,5 +1,5 @@
 use Rattle.std.proofs.Common.{◌≡◌, ◌∙◌, List, ℕ, true, sym, subst}
-use Rattle.ckrt_checkpoint.specs.Layout.{is_open}
+use Rattle.ckrt_stored.specs.Layout.{is_open}
 use Rattle.ckrt_witness.proofs.closed_making.makings.Goals as goal
 
 pub returns : goal.returns

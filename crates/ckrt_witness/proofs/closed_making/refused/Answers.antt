@@ -1,7 +1,7 @@
 use Rattle.std.proofs.Common.{Err, subst}
 use Rattle.ckrt_disk.specs.contracts.stopping.StoppingDiskDisk.TheImpl as stopping
-use Rattle.ckrt_cli_faults.specs.declared.fault.JobFault.{JobFault}
-use Rattle.ckrt_cli_faults.specs.declared.fault.JobFault.TheVariants.{Format}
+use Rattle.ckrt_cli_reports.specs.declared.fault.JobFault.{JobFault}
+use Rattle.ckrt_cli_reports.specs.declared.fault.JobFault.TheVariants.{Format}
 use Rattle.ckrt_stored.specs.declared.fault.FormatFault.{FormatFault}
 use Rattle.ckrt_witness.specs.Making.{Made}
 use Rattle.ckrt_witness.proofs.closed_making.refused.Goals as goal

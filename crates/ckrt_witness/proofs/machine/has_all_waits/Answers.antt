@@ -1,7 +1,7 @@
 use Rattle.std.proofs.Common.{◌∙◌, ap, sym, subst}
 use Rattle.std.specs.Prelude.{is_some}
 use Rattle.ckrt_machine.specs.Plans.{planned}
-use Rattle.ckrt_state.specs.declared.table.Tables.{Tables}
+use Rattle.ckrt_calls.specs.declared.table.Tables.{Tables}
 use Rattle.ckrt_witness.specs.Machine.{HasAllWaits}
 use Rattle.ckrt_witness.proofs.machine.has_all_waits.Goals as goal
 

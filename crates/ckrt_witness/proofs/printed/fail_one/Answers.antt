@@ -1,6 +1,6 @@
 use Rattle.std.proofs.Common.{rules, ◌≡◌, []}
 use Rattle.std.specs.Prelude.{◌≢◌}
-use Rattle.ckrt_cli_faults.specs.declared.fault.JobFault.TheVariants.{Recover}
+use Rattle.ckrt_cli_reports.specs.declared.fault.JobFault.TheVariants.{Recover}
 use Rattle.ckrt_stored.specs.declared.fault.RecoverFault.TheVariants.{Device}
 use Rattle.ckrt_witness.proofs.PrintedLemmas.{failed}
 use Rattle.ckrt_witness.proofs.printed.fail_one.Goals as goal

@@ -1,6 +1,6 @@
 use Rattle.std.proofs.lemmas.Result.{on_ok_weaker}
 use Rattle.ckrt_disk.proofs.WriteLemmas.{Appends-append, on_err}
-use Rattle.ckrt_gdb_packets.specs.Framing.{frame_of}
+use Rattle.ckrt_gdb_forms.specs.Framing.{frame_of}
 use Rattle.ckrt_gdb_stub.specs.Conversation.{console_frames}
 use Rattle.ckrt_gdb_stub.proofs.ConversationLemmas.{part_front, parts_behind}
 use Rattle.ckrt_gdb_stub.proofs.line.Line.send_behind.Goals as goal

@@ -2,7 +2,7 @@ use Rattle.std.proofs.Common.{List, ℕ, subst}
 use Rattle.std.specs.Prelude.{OnErr, OnOk}
 use Rattle.std.specs.Io.KnownBytes.{Appends}
 use Rattle.ckrt_disk.specs.Writing.{AppendsPart}
-use Rattle.ckrt_gdb_packets.specs.Framing.{frame_of}
+use Rattle.ckrt_gdb_forms.specs.Framing.{frame_of}
 use Rattle.ckrt_gdb_stub.proofs.line.Line.send_reply.Goals as goal
 
 pub returns-clause-ok : goal.returns-clause-ok

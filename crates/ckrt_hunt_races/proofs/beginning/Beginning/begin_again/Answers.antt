@@ -1,20 +1,18 @@
-use Rattle.std.proofs.Common.{◌≡◌, ◌∙◌, ap, length}
+use Rattle.std.proofs.Common.{◌≡◌, ◌∙◌, ap, refl}
 use Rattle.ckrt_memory.specs.Marks.{Memory}
 use Rattle.ckrt_machine.specs.Steps.{State}
-use Rattle.ckrt_state.specs.declared.table.Tables.{Tables}
+use Rattle.ckrt_calls.specs.declared.table.Tables.{Tables}
+use Rattle.ckrt_hunt_schedules.proofs.CopyLemmas.{room_behind}
 use Rattle.ckrt_hunt_races.proofs.beginning.Beginning.begin_again.Goals as goal
 
 -- the room has what the machine had
 pub returns : goal.returns
-returns c = λ start aside size.
+returns c = λ was aside on.
+    let start = was.state in
     let new = c.exchange.new.self.state in
     let bytes : new.bytes ≡ start.bytes = ap (λ (m : Memory). m.bytes) c.exchange.ensures.memory ∙ aside.memory in
     let tables : new.tables ≡ start.tables = c.exchange.ensures.tables ∙ aside.tables in
     record {
       state = ap (λ b. let s : State = record { bytes = b; tables = new.tables } in s) bytes ∙ ap (λ (t : Tables). let s : State = record { bytes = start.bytes; tables = t } in s) tables;
-      room = record {
-        size = ap (λ (m : Memory). length m.bytes) c.exchange.ensures.given ∙ size.bytes;
-        harts = ap (λ (t : Tables). t.threads.hart_count) c.exchange.ensures.given_tables ∙ size.harts;
-        some = aside.some;
-      };
+      room = room_behind was c.args.self.now.machine was c.exchange.new.memory c.exchange.new.tables aside.some refl refl c.exchange.ensures.given c.exchange.ensures.given_tables on.follows on.harts;
     }

@@ -1,8 +1,14 @@
-use Rattle.std.proofs.Common.{◌∙◌, ap, subst, sym}
-use Rattle.ckrt_memory.specs.Marks.{Memory}
-use Rattle.ckrt_state.specs.WellFormed.{IsWellFormed}
-use Rattle.ckrt_state.specs.declared.table.Tables.{Tables}
+use Rattle.std.proofs.Common.{◌∙◌, ap, length, subst, sym}
+use Rattle.ckrt_memory.specs.Marks.{IsCopyButMarked, Memory}
+use Rattle.ckrt_calls.specs.WellFormed.{IsWellFormed}
+use Rattle.ckrt_calls.specs.declared.table.Tables.{Tables}
 use Rattle.ckrt_hunt_races.proofs.beginning.Beginning.put_aside.Goals as goal
+
+pub restore_memory-requires : goal.restore_memory-requires
+restore_memory-requires c = record {
+  size = c.requires.size ∙ sym (ap (λ (m : Memory). length m.bytes) c.memory.ensures);
+  copy = subst (λ (m : Memory). IsCopyButMarked m.bytes c.args.self.now.memory) (sym c.memory.ensures) c.requires.copy;
+}
 
 pub returns-clause-aside : goal.returns-clause-aside
 returns-clause-aside c = record {

@@ -1,9 +1,8 @@
 use Rattle.std.proofs.Common.{◌∙◌, ap, subst, sym}
 use Rattle.ckrt_machine.specs.Events.{Machine}
-use Rattle.ckrt_machine.specs.Steps.{State}
 use Rattle.ckrt_hunt_schedules.specs.Tallies.{Hunted}
 use Rattle.ckrt_hunt_races.specs.Races.{raced_in}
-use Rattle.ckrt_hunt_races.specs.RaceRuns.{IsBegun, IsLookedAt, IsSameSize}
+use Rattle.ckrt_hunt_races.specs.RaceRuns.{HasGoneOn, IsBegun, IsLookedAt}
 use Rattle.ckrt_hunt_races.proofs.ReadyLemmas.{begun_again, has_begun, looked, ready_again, room_at}
 use Rattle.ckrt_hunt_races.proofs.hunt.RaceHunt.look_at.Goals as goal
 
@@ -44,7 +43,7 @@ invariant_of-self c =
     let whole = ap (λ (m : Machine). m.state) c.put_aside.ensures.machine in
     let stepped = ap (λ (m : Machine). m.state) c.put_aside-2.ensures.machine in
     let first : IsBegun h.start c.begin_again.new.self = begun_again h.start c.self.inside.whole c.put_aside.new.self c.watch_run.new.whole c.begin_again.new.self i.whole.state c.put_aside.ensures.aside
-    (subst (λ (s : State). IsSameSize s c.watch_run.new.whole.state) whole c.watch_run.ensures.whole) c.begin_again.ensures in
+    (subst (λ (m : Machine). HasGoneOn m c.watch_run.new.whole) c.put_aside.ensures.machine c.watch_run.ensures.whole) c.begin_again.ensures in
     let second : IsBegun h.start c.begin_again-2.new.self = begun_again h.start c.self.inside.stepped c.put_aside-2.new.self c.watch_run.new.stepped c.begin_again-2.new.self i.stepped.state c.put_aside-2.ensures.aside
-    (subst (λ (s : State). IsSameSize s c.watch_run.new.stepped.state) (whole ∙ i.whole.state ∙ sym i.stepped.state) c.watch_run.ensures.stepped) c.begin_again-2.ensures in
+    (subst (λ (m : Machine). HasGoneOn m c.watch_run.new.stepped) c.put_aside-2.ensures.machine c.watch_run.ensures.stepped) c.begin_again-2.ensures in
     ready_again h c.begin_again.new.self c.begin_again-2.new.self c.plan_of.result _ c.watch_run.new.detector (whole ∙ i.whole.state) first second c.watch_run.ensures.seen

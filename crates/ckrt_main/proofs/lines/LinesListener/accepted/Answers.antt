@@ -1,8 +1,8 @@
 use Rattle.std.proofs.Common.{◌∙◌, subst}
 use Rattle.std.specs.Io.KnownBytes.{Appends}
-use Rattle.ckrt_commands.specs.Replies.{Accepted, line_of}
+use Rattle.ckrt_main.specs.Replies.{Accepted, line_of}
 use Rattle.ckrt_disk.specs.Writing.{AppendsPart}
-use Rattle.ckrt_commands.proofs.TellLemmas.{tells_half, tells_one}
+use Rattle.ckrt_main.proofs.TellLemmas.{tells_half, tells_one}
 use Rattle.ckrt_disk.proofs.WriteLemmas.{map_err, map_ok}
 use Rattle.ckrt_main.proofs.lines.LinesListener.accepted.Goals as goal
 

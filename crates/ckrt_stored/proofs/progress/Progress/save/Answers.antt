@@ -1,12 +1,12 @@
 use Rattle.std.proofs.Common.{◌≡◌, ◌≤◌, ◌<◌, ◌+◌, ◌-◌, ◌^◌, ℕ, List, length, take, ◌∙◌, ap, subst, arith}
 use Rattle.std.proofs.lemmas.Result.{on_ok_weaker}
 use Rattle.ckrt_disk.proofs.Moments.{weaker}
-use Rattle.ckrt_state.specs.declared.table.Tables.{Tables}
+use Rattle.ckrt_calls.specs.declared.table.Tables.{Tables}
 use Rattle.ckrt_tables.specs.Decoding.{IsEncodingOf}
 use Rattle.ckrt_tables.specs.Encoding.{encoding_of}
 use Rattle.ckrt_tables.specs.Savable.{CanBeSaved}
-use Rattle.ckrt_checkpoint.specs.declared.save_point.SavePoint.{SavePoint}
-use Rattle.ckrt_checkpoint.specs.Write.{HasSaved, IsSaving, next_header}
+use Rattle.ckrt_stored.specs.declared.save_point.SavePoint.{SavePoint}
+use Rattle.ckrt_stored.specs.Write.{HasSaved, IsSaving, next_header}
 use Rattle.ckrt_memory.specs.Marks.{Memory}
 use Rattle.ckrt_stored.specs.Progress.{RecoversToOldOrNew, save_point_of}
 use Rattle.ckrt_stored.proofs.SaveLemmas.{pages_saved, saved_recovers, saving_recovers}

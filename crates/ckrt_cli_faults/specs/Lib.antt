@@ -1,5 +1,0 @@
-pub mod Lengths
-pub mod Names
-pub mod Outside
-pub mod Ranges
-pub mod Statuses

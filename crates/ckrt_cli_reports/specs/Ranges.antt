@@ -1,0 +1,62 @@
+-- The numbers of the words: what is given where they have none, and which of them are in their ranges.
+use Rattle.std.specs.Prelude.{◌&&◌, ℕ, nat_lt, nat_le, Bool, true, false, List, not, Option, Some, None, unwrap_or}
+use Rattle.ckrt_stored.specs.declared.config.Config.{Config}
+use Rattle.ckrt_drive.specs.Slot.{TAKEN_LIMIT}
+use Rattle.ckrt_cli_words.specs.Jobs.{Driving, Hunting}
+use Rattle.ckrt_cli_words.specs.declared.job.Sizes.{Sizes}
+
+-- what a disk is made with: what `format` takes, where a size isn't given
+abbrev pub config_for : Sizes → Config
+config_for s =
+    record {
+      pages = unwrap_or s.pages 64;
+      harts = unwrap_or s.harts 1;
+      journal = unwrap_or s.journal 65536;
+    }
+
+-- a second or more lies between two lines, where there are any
+abbrev pub is_interval : Option ℕ → Bool
+is_interval None = true
+is_interval (Some seconds) = nat_lt 0 seconds
+
+-- an offset goes with the standard output alone
+abbrev pub is_target : Option (List ℕ) → Option ℕ → Bool
+is_target None from = true
+is_target (Some path) None = true
+is_target (Some path) (Some from) = false
+
+-- an offset of the input goes with a file of it alone, and is one that a record may have
+abbrev pub is_intake : Option (List ℕ) → Option ℕ → Bool
+is_intake input None = true
+is_intake (Some path) (Some from) = nat_lt from TAKEN_LIMIT
+is_intake None (Some from) = false
+
+-- a turn has 1 to 1,000,000 steps, and there is a round or more between two commits
+abbrev pub is_in_range : Driving → Bool
+is_in_range j =
+    nat_lt 0 j.turn
+    && (nat_le j.turn 1000000
+    && (nat_lt 0 j.rounds
+    && (is_interval j.progress && (is_target j.output j.from && is_intake j.input j.input_from))))
+
+-- seeds of a range, or as many as there is time for, and not both
+abbrev pub is_choice : (seeds : Option (List ℕ)) → (seconds : Option ℕ) → Bool
+is_choice None seconds = true
+is_choice (Some seeds) None = true
+is_choice (Some seeds) (Some seconds) = false
+
+-- a hunt that goes by time takes seeds for a second or more, and for 365 days at most
+abbrev pub is_time : Option ℕ → Bool
+is_time None = true
+is_time (Some seconds) = nat_lt 0 seconds && nat_le seconds 31536000
+
+-- a table that is written while a hunt runs has no races
+abbrev pub is_tabled : (table : Option (List ℕ)) → (races : Bool) → Bool
+is_tabled None races = true
+is_tabled (Some path) races = not races
+
+-- what a hunt is told besides its sizes and the text of its seeds
+abbrev pub is_hunt_in_range : Hunting → Bool
+is_hunt_in_range h =
+    is_choice h.seeds h.seconds
+    && (is_time h.seconds && (is_interval h.progress && is_tabled h.table h.races))

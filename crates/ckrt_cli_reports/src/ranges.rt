@@ -1,0 +1,88 @@
+//! The numbers of the words: what is given where they have none, and which of them are in their ranges.
+ghost use Rattle.std.specs.Prelude.{◌≡◌, option_map};
+ghost use Rattle.ckrt_cli_words.specs.Jobs.{driving_of, hunting_of};
+ghost use Rattle.ckrt_cli_reports.specs.Ranges.{config_for, is_choice, is_hunt_in_range, is_in_range, is_intake, is_tabled, is_target, is_time};
+
+use ckrt_cli_words::{DriveJob, HuntJob, Sizes};
+use ckrt_drive::TAKEN_LIMIT;
+use ckrt_events::LONG_RUN_LIMIT;
+use ckrt_recovery::Config;
+
+/// For how many seconds a hunt takes seeds at most: 365 days.
+const MOST_SECONDS: u64 = 31_536_000;
+
+/// What a disk is made with: what `format` takes, where a size isn't given.
+pub fn config_for(sizes: &Sizes) -> Config
+    ensures { result ≡ config_for sizes.now }
+{
+    Config {
+        pages: sizes.pages.unwrap_or(64),
+        harts: sizes.harts.unwrap_or(1),
+        journal: sizes.journal.unwrap_or(65_536),
+    }
+}
+
+/// Whether an offset goes with where the output goes: with the standard output alone.
+pub fn is_target(output: Option<&str>, from: Option<u64>) -> bool
+    ensures { result ≡ is_target (option_map (λ path. path.now) output.entry) from }
+{
+    output.is_none() || from.is_none()
+}
+
+/// Whether an offset goes with what the input is: with a file alone, and below where a record ends.
+fn is_intake(input: Option<&str>, from: Option<u64>) -> bool
+    ensures { result ≡ is_intake (option_map (λ path. path.now) input.entry) from }
+{
+    match from {
+        Some(from) => input.is_some() && from < TAKEN_LIMIT,
+        None => true,
+    }
+}
+
+/// Whether the numbers of a drive are in their ranges: a turn of 1 to 1,000,000 steps, a round or more between two commits, a second or
+/// more between two lines, and each offset with what it goes with.
+pub fn is_in_range(job: &DriveJob<'_>) -> bool
+    ensures { result ≡ is_in_range (driving_of job.now) }
+{
+    job.turn > 0
+        && job.turn <= LONG_RUN_LIMIT
+        && job.rounds > 0
+        && job.progress != Some(0)
+        && is_target(job.output, job.from)
+        && is_intake(job.input, job.input_from)
+}
+
+/// Whether the seeds of a hunt are those of a range, or as many as there is time for, and not both.
+pub fn is_choice(seeds: Option<&str>, seconds: Option<u64>) -> bool
+    ensures { result ≡ is_choice (option_map (λ text. text.now) seeds.entry) seconds }
+{
+    seeds.is_none() || seconds.is_none()
+}
+
+/// Whether a hunt takes seeds for 1 to 31,536,000 seconds, where it goes by time.
+pub fn is_time(seconds: Option<u64>) -> bool
+    ensures { result ≡ is_time seconds }
+{
+    match seconds {
+        Some(seconds) => 1 <= seconds && seconds <= MOST_SECONDS,
+        None => true,
+    }
+}
+
+/// Whether a file may have the table of a hunt while it runs: where it isn't looked at for races.
+pub fn is_tabled(table: Option<&str>, races: bool) -> bool
+    ensures { result ≡ is_tabled (option_map (λ path. path.now) table.entry) races }
+{
+    table.is_none() || !races
+}
+
+/// Whether the numbers of a hunt, but for its sizes, are in their ranges, it takes seeds from one range or by time, and no file has its table
+/// where that has races.
+pub fn is_hunt_in_range(job: &HuntJob<'_>) -> bool
+    ensures { result ≡ is_hunt_in_range (hunting_of job.now) }
+{
+    is_choice(job.seeds, job.seconds)
+        && is_time(job.seconds)
+        && job.progress != Some(0)
+        && is_tabled(job.table, job.races)
+}

@@ -1,6 +1,0 @@
-use Rattle.ckrt_cli_theorem.specs.Runs.{way_of_run}
-use Rattle.ckrt_cli_theorem.proofs.LengthLemmas.{long_as_output}
-use Rattle.ckrt_cli_theorem.proofs.runs.output_has_its_length.Goals as goal
-
-pub returns : goal.returns
-returns g c = λ r honest p events reps size fit saved. long_as_output g.D.Disk g.O.Disk (way_of_run r) r.before r.after r.output r.end r.answer r.drives honest p events reps size fit saved

@@ -1,5 +1,0 @@
-use Rattle.ckrt_cli_theorem.proofs.DriveRunLemmas.{told_by_record}
-use Rattle.ckrt_cli_theorem.proofs.runs.runs_are_told.Goals as goal
-
-pub returns : goal.returns
-returns g c = λ r found path from old new law supplies recovered honest at. told_by_record g.D.Disk (g.S.Sources.gives c.args.sources.now) from g.O.Disk r found path old new law supplies recovered honest at

@@ -1,5 +1,0 @@
-pub mod Coming
-pub mod Promise
-pub mod Commands
-pub mod Runs
-pub mod Lengths

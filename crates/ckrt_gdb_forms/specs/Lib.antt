@@ -1,0 +1,9 @@
+pub mod Elf
+pub mod Notes
+pub mod Core
+pub mod Worked
+pub mod Numbers
+pub mod Framing
+pub mod Replies
+pub mod Requests
+pub mod ReadBack

@@ -1,4 +1,0 @@
-pub mod NumberLemmas
-pub mod PartLemmas
-pub mod PayloadLemmas
-pub mod ReadBackLemmas

@@ -1,5 +1,0 @@
-pub mod Numbers
-pub mod Framing
-pub mod Replies
-pub mod Requests
-pub mod ReadBack

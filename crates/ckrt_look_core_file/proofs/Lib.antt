@@ -1,4 +1,0 @@
-mod AppendLemmas
-mod NoteLemmas
-mod MemoryLemmas
-mod WorkedLemmas

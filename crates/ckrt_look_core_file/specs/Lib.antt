@@ -1,4 +1,0 @@
-pub mod Elf
-pub mod Notes
-pub mod Core
-pub mod Worked

@@ -1,7 +1,0 @@
-use Rattle.std.proofs.Common.{◌≡◌, ◌+◌, drop}
-use Rattle.ckrt_look_counts.specs.Shares.{rank_of}
-use Rattle.ckrt_look_counts.proofs.shares.rank_of.Given as goal
-
--- none of those before has fewer
-abbrev pub invariant-loop-place : goal.invariant-loop-place
-invariant-loop-place l = rank_of l.steps l.ranked ≡ l.place + rank_of l.steps (drop l.place l.ranked)

@@ -1,7 +1,0 @@
-use Rattle.std.proofs.Common.{◌≡◌, drop}
-use Rattle.ckrt_look_counts.specs.Shares.{steps_behind}
-use Rattle.ckrt_look_counts.proofs.shares.steps_of.Given as goal
-
--- with those ahead, these are all
-abbrev pub invariant-loop-share : goal.invariant-loop-share
-invariant-loop-share l = steps_behind l.steps (drop l.share-index l.shares) ≡ steps_behind 0 l.fn.shares

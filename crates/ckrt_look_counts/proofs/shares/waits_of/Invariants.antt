@@ -1,7 +1,0 @@
-use Rattle.std.proofs.Common.{◌≡◌, map, take}
-use Rattle.ckrt_look_counts.specs.Shares.{wait_share}
-use Rattle.ckrt_look_counts.proofs.shares.waits_of.Given as goal
-
--- those so far
-abbrev pub invariant-loop-waited : goal.invariant-loop-waited
-invariant-loop-waited l = l.shares.items ≡ map wait_share (take l.waited-index l.rows)

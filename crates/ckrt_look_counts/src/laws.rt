@@ -1,7 +1,0 @@
-//! Laws of what is counted. Each is the contract of a function with an empty body.
-ghost use Rattle.ckrt_look_counts.specs.Laws.{EachStepCountsOnce};
-
-/// Each step counts once, on its stack and for its thread.
-pub fn each_step_counts_once()
-    ensures { EachStepCountsOnce }
-{}
