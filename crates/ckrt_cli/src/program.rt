@@ -11,7 +11,7 @@ ghost use Rattle.ckrt_cli_reports.specs.Lines.{version_line};
 
 use crate::{calls_path, debug_path, hunt_path, profile_path, races_path, stored, timeline_path};
 use ckrt_cli_disk::{core_path, drive_path, inspect_disk, make_disk, run_disk};
-use ckrt_cli_files::{JobFile, RealDisk, Sources, SystemSources};
+use ckrt_cli_files::{ImageReader, JobFile, RealDisk, Sources, SystemSources};
 use ckrt_cli_reports::{
     Done, Driven, JobFault, Meter, Reporter, report, report_words, write_formatted, write_version,
 };
@@ -358,7 +358,15 @@ pub fn run_words<
         })
         result }
 {
-    run_words_with::<File, RealDisk<'a, H>, SystemSources<'a, F, RealDisk<'a, H>>, R, W, E, M>(
+    run_words_with::<
+        ImageReader,
+        RealDisk<'a, H>,
+        SystemSources<'a, F, RealDisk<'a, H>>,
+        R,
+        W,
+        E,
+        M,
+    >(
         alloc, words, rules, sources, reader, writer, reporter, meter,
     )
 }

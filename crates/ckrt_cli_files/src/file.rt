@@ -38,6 +38,10 @@ pub enum FileFault {
     IsImage,
     /// The image is an ELF file.
     IsElf,
+    /// The image takes no words.
+    NoWords,
+    /// The image is longer with its words than the largest guest's memory.
+    LongWords,
     /// The path of an input, an output, a core or a status is the disk's too.
     IsDisk,
     /// The path of an output or a status is the input's too.
@@ -159,6 +163,10 @@ impl FileFault {
             FileFault::IsImage => "the image has this path too",
             FileFault::IsElf =>
                 "it is an ELF file: guest/image, or objcopy -O binary, makes an image of it",
+            FileFault::NoWords =>
+                "it takes no words: build it by guest/build, without words or files of its own, or leave out -- and --env",
+            FileFault::LongWords =>
+                "with its words it is longer than the largest guest's memory; give fewer or shorter ones",
             FileFault::IsDisk => "the disk has this path too; give another",
             FileFault::IsInput => "the input has this path too; give another",
             FileFault::IsOutput => "the output has this path too; give another",

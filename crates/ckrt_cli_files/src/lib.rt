@@ -17,6 +17,8 @@ mod file;
 mod files;
 mod growing;
 mod identity;
+mod image_reader;
+mod image_words;
 mod leftover;
 mod output;
 mod reason;
@@ -26,6 +28,8 @@ mod told;
 
 pub use file::{FileFault, JobFile};
 pub use identity::is_same_file;
+pub use image_reader::ImageReader;
+pub use image_words::{LARGEST_IMAGE, ProgramWords, put_words};
 pub use output::OpenedOutput;
 pub use reason::OutputReason;
 pub use sources::{Closes, Sources, Unlengthened};

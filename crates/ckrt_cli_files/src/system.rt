@@ -11,6 +11,8 @@ use crate::files::{
     open_making_file, open_read, open_shared, open_system_input, open_system_output, remove,
 };
 use crate::identity::{FileId, leads_to};
+use crate::image_reader::{ImageReader, with_words};
+use crate::image_words::ProgramWords;
 use crate::output::OpenedOutput;
 use crate::reason::OutputReason;
 use crate::sources::{Closes, Sources, Unlengthened};
@@ -47,6 +49,8 @@ pub struct SystemSources<'a, R, D> {
     rt: &'a R,
     /// Where an output notes why it failed.
     why: &'a Cell<OutputReason>,
+    /// What each image gets.
+    words: Option<(Global, ProgramWords<'a>)>,
     opened: Calls<FileUse>,
     image: History<FileOpening<'a>>,
     disk: History<FileOpening<'a>>,
@@ -86,6 +90,7 @@ impl<'a, R, D> SystemSources<'a, R, D> {
         SystemSources {
             rt,
             why,
+            words: None,
             opened: before,
             image: History::new(),
             disk: History::new(),
@@ -104,6 +109,21 @@ impl<'a, R, D> SystemSources<'a, R, D> {
             input_id: None,
             disk_file: None,
             made: None,
+        }
+    }
+
+    /// The same files, of which each image gets these words, if there are any.
+    pub fn with_words(
+        self,
+        alloc: Global,
+        words: Option<ProgramWords<'a>>,
+    ) -> SystemSources<'a, R, D>
+        ensures openings { openings_of result ≡ openings_of self }
+        ensures opened { opened_by result ≡ opened_by self }
+    {
+        SystemSources {
+            words: words.map(|words| (alloc, words)),
+            ..self
         }
     }
 }
@@ -153,8 +173,8 @@ impl<'a, R: Files<File = File>, D> SystemSources<'a, R, D> {
         Ok(())
     }
 
-    /// The file of an image, which is remembered.
-    fn open_image_file(&mut self, path: &str) -> Result<File, FileFault>
+    /// The image of a path, with its words. Its file is remembered.
+    fn open_image_file(&mut self, path: &str) -> Result<ImageReader, FileFault>
         ensures { openings_of self.new ≡ openings_of self.old }
     {
         let file = open_read(self.rt, path)?;
@@ -162,7 +182,10 @@ impl<'a, R: Files<File = File>, D> SystemSources<'a, R, D> {
             Ok(told) => Some(FileId::of(&told)),
             Err(_) => None,
         };
-        Ok(file)
+        match self.words {
+            Some((alloc, words)) => with_words(alloc, file, &words),
+            None => Ok(ImageReader::File(file)),
+        }
     }
 
     /// The file of a disk, which is remembered.
@@ -344,7 +367,7 @@ impl<'a, R: Files<File = File>, D: Drop> Closes<D> for SystemSources<'a, R, D> {
     }
 }
 
-impl<'a, R: Files<File = File>, H: Holds> Sources<'a, File, RealDisk<'a, H>>
+impl<'a, R: Files<File = File>, H: Holds> Sources<'a, ImageReader, RealDisk<'a, H>>
     for SystemSources<'a, R, RealDisk<'a, H>> {
     ghost image_bytes = { λ _ _. None };
 
@@ -354,7 +377,7 @@ impl<'a, R: Files<File = File>, H: Holds> Sources<'a, File, RealDisk<'a, H>>
 
     ghost gives = { λ _. real_gives ⟦<RealDisk<'a, H> as Disk>⟧ };
 
-    fn open_image(&mut self, path: &'a str) -> Result<File, FileFault> {
+    fn open_image(&mut self, path: &'a str) -> Result<ImageReader, FileFault> {
         let opened = self.open_image_file(path);
         self.image = self.image.with(&FileOpening::of(path, &opened));
         opened

@@ -1,12 +1,12 @@
--- The program's command line, as `clap` sees it: `format DISK IMAGE [--pages P] [--harts H] [--journal J]`, `run DISK`,
+-- The program's command line, as `clap` sees it: `format DISK IMAGE [--pages P] [--harts H] [--journal J] [--env NAME=VALUE]`, `run DISK`,
 -- `inspect DISK [--at K] [--code] [--names FILE]`, `core DISK FILE [--at K]`, `calls DISK [--from K] [--to K] [--last N] [--names FILE]`,
 -- `debug DISK [--at K]`, `races DISK [--from K] [--to K] [--last N] [--names FILE]`,
 -- `timeline DISK [--from K] [--to K] [--last N] [--names FILE] [--width W] [--json]`,
 -- `profile DISK [--from K] [--to K] [--last N] [--names FILE] [--folded | --callgrind]`,
 -- `hunt IMAGE [--seeds A-B | --seconds S] [--pages P] [--harts H] [--input FILE] [--steps N] [--races] [--ignore-output] [--rows] [--keep DISK | FOLDER/] [--table FILE] [--progress SECONDS]
--- [--names FILE]` and
+-- [--names FILE] [--env NAME=VALUE]` and
 -- `drive DISK [--image IMAGE] [--pages P] [--harts H] [--journal J] [--input FILE] [--input-from OFFSET] [--output FILE] [--turn N] [--rounds-per-commit R] [--events N] [--seed S]
--- [--progress SECONDS] [--status FILE] [--from OFFSET] [--names FILE]`.
+-- [--progress SECONDS] [--status FILE] [--from OFFSET] [--names FILE] [--env NAME=VALUE]`.
 use Rattle.std.specs.Prelude.{pos, codes, fold, Some, true, List, [], ◌∷◌}
 use Rattle.clap.specs.Words.{App, Rule, Text, new_app, new_rule, with_rule, with_subcommand}
 use Rattle.clap.specs.declared.builder.value_parser.ValueParser.TheVariants.{Signed, Unsigned}
@@ -51,12 +51,13 @@ flag_rule id = record (new_rule id) { long = Some id; action = Some SetTrue }
 
 abbrev pub format_app : App
 format_app =
-    with_rule (with_rule (with_rule (with_rule (with_rule (new_app (codes "format"))
+    with_rule (with_rule (with_rule (with_rule (with_rule (with_rule (new_app (codes "format"))
     (needed_rule (codes "disk")))
     (needed_rule (codes "image")))
     (number_rule (codes "pages") (codes "64")))
     (number_rule (codes "harts") (codes "1")))
-    (number_rule (codes "journal") (codes "65536"))
+    (number_rule (codes "journal") (codes "65536")))
+    (option_rule (codes "env"))
 
 abbrev pub run_app : App
 run_app = with_rule (new_app (codes "run")) (needed_rule (codes "disk"))
@@ -112,7 +113,7 @@ profile_app =
 
 abbrev pub hunt_app : App
 hunt_app =
-    with_rule (with_rule (with_rule (with_rule (with_rule (with_rule (with_rule (with_rule (with_rule (with_rule (with_rule (with_rule
+    with_rule (with_rule (with_rule (with_rule (with_rule (with_rule (with_rule (with_rule (with_rule (with_rule (with_rule (with_rule (with_rule
     (with_rule (with_rule (new_app (codes "hunt"))
     (needed_rule (codes "image")))
     (option_rule (codes "seeds")))
@@ -127,11 +128,12 @@ hunt_app =
     (option_rule (codes "keep")))
     (option_rule (codes "table")))
     (place_rule (codes "progress")))
-    (option_rule (codes "names"))
+    (option_rule (codes "names")))
+    (option_rule (codes "env"))
 
 abbrev pub drive_app : App
 drive_app =
-    with_rule (with_rule (with_rule (with_rule (with_rule (with_rule (with_rule (with_rule (with_rule (with_rule (with_rule (with_rule
+    with_rule (with_rule (with_rule (with_rule (with_rule (with_rule (with_rule (with_rule (with_rule (with_rule (with_rule (with_rule (with_rule
     (with_rule (with_rule (with_rule (with_rule (new_app (codes "drive"))
     (needed_rule (codes "disk")))
     (option_rule (codes "image")))
@@ -148,7 +150,8 @@ drive_app =
     (place_rule (codes "progress")))
     (option_rule (codes "status")))
     (place_rule (codes "from")))
-    (option_rule (codes "names"))
+    (option_rule (codes "names")))
+    (option_rule (codes "env"))
 
 -- the program without a command: its words don't begin with its name, and `help` is no command
 abbrev pub bare_app : App

@@ -75,7 +75,21 @@ fn names<'a>(alloc: Global) -> Arg<'a>
     )
 }
 
-/// `format DISK IMAGE [--pages P] [--harts H] [--journal J]`.
+/// A variable of the environment of the program whose image is read. `clap` meets it where its value is missing: the others are taken out before,
+/// since there may be several.
+fn variable<'a>(alloc: Global) -> Arg<'a>
+    ensures rule { rule_of result ≡ option_rule (codes "env") }
+    ensures local { result.global ≡ false }
+{
+    option(
+        alloc,
+        "env",
+        "NAME=VALUE",
+        "Give the program a variable of its environment; its arguments follow --",
+    )
+}
+
+/// `format DISK IMAGE [--pages P] [--harts H] [--journal J] [--env NAME=VALUE]`.
 fn format_command<'a>(alloc: Global) -> Result<Command<'a>, AllocError>
     ensures app { IfOk result (λ c. app_of c ≡ format_app) }
     ensures local { IfOk result (λ c. (out-Command c).has_globals ≡ false) }
@@ -111,6 +125,7 @@ fn format_arguments<'a>(alloc: Global) -> Result<Vec<Arg<'a>>, AllocError>
             "65536",
             "Bytes of a journal, 4096 to 1048576 by 4096"
         ),
+        variable(alloc),
     ]?;
     Ok(arguments)
 }
@@ -471,6 +486,7 @@ fn hunt_arguments<'a>(alloc: Global) -> Result<Vec<Arg<'a>>, AllocError>
             "Tell how far it is, at most once in so many seconds, 1 or more"
         ),
         names(alloc),
+        variable(alloc),
     ]?;
     Ok(arguments)
 }
@@ -575,6 +591,7 @@ fn drive_arguments<'a>(alloc: Global) -> Result<Vec<Arg<'a>>, AllocError>
             "Leave out the output below this offset, on the standard output"
         ),
         names(alloc),
+        variable(alloc),
     ]?;
     Ok(arguments)
 }

@@ -27,7 +27,7 @@ fn matches_of<'a>(alloc: Global, words: &'a [&'a str]) -> Result<ArgMatches<'a>,
 
 /// What follows a number of `format` that isn't one.
 const FORMAT_USAGE: &str =
-    "Usage: ckrt format <DISK> <IMAGE> [--pages 16 to 65536] [--harts 1 to 8] [--journal 4096 to 1048576 by 4096]";
+    "Usage: ckrt format <DISK> <IMAGE> [--pages 16 to 65536] [--harts 1 to 8] [--journal 4096 to 1048576 by 4096] [--env NAME=VALUE] [-- ARGUMENTS]";
 
 /// What follows a number of `inspect` that isn't one.
 const INSPECT_USAGE: &str =
@@ -60,11 +60,11 @@ const BOTH_FORMS: &str = "error: the argument '--folded' cannot be used with '--
 
 /// What follows a number of `hunt` that isn't one.
 const HUNT_USAGE: &str =
-    "Usage: ckrt hunt <IMAGE> [--seeds FIRST-LAST | --seconds 1 to 31536000] [--pages 16 to 65536] [--harts 1 to 8] [--input <FILE>] [--steps NUMBER OF STEPS] [--races] [--ignore-output] [--rows] [--keep <DISK>] [--table <FILE>] [--progress SECONDS] [--names <FILE>]";
+    "Usage: ckrt hunt <IMAGE> [--seeds FIRST-LAST | --seconds 1 to 31536000] [--pages 16 to 65536] [--harts 1 to 8] [--input <FILE>] [--steps NUMBER OF STEPS] [--races] [--ignore-output] [--rows] [--keep <DISK>] [--table <FILE>] [--progress SECONDS] [--names <FILE>] [--env NAME=VALUE] [-- ARGUMENTS]";
 
 /// What follows a number of `drive` that isn't one.
 const DRIVE_USAGE: &str =
-    "Usage: ckrt drive <DISK> [--image <IMAGE>] [--pages 16 to 65536] [--harts 1 to 8] [--journal 4096 to 1048576 by 4096] [--input <FILE>] [--input-from OFFSET] [--output <FILE>] [--turn 1 to 1000000] [--rounds-per-commit NUMBER OF ROUNDS] [--events NUMBER OF EVENTS] [--seed NUMBER] [--progress SECONDS] [--status <FILE>] [--from OFFSET] [--names <FILE>]";
+    "Usage: ckrt drive <DISK> [--image <IMAGE>] [--pages 16 to 65536] [--harts 1 to 8] [--journal 4096 to 1048576 by 4096] [--input <FILE>] [--input-from OFFSET] [--output <FILE>] [--turn 1 to 1000000] [--rounds-per-commit NUMBER OF ROUNDS] [--events NUMBER OF EVENTS] [--seed NUMBER] [--progress SECONDS] [--status <FILE>] [--from OFFSET] [--names <FILE>] [--env NAME=VALUE] [-- ARGUMENTS]";
 
 /// What follows a number that isn't one, by the command.
 fn number_usage(words: &[&str]) -> &'static str {
