@@ -1,1 +1,2 @@
 mod LeftoverLemmas
+mod TextLemmas

@@ -1,6 +1,6 @@
 -- The words of a program, which its image gets where it takes some (docs/ABI.md, this project's choice): what `main` gets after its name, and
 -- what `getenv` finds (POSIX.1-2017, exec: argv and envp).
-use Rattle.std.specs.Prelude.{◌+◌, ◌-◌, ◌*◌, ◌++◌, ◌&&◌, ◌≡◌, ℕ, Bool, true, false, if◌then◌else◌, nat_eq, nat_le, nat_lt, List, [], ◌∷◌, length, Option, Some, None, is_some, option_and_then, Result, Ok, Err}
+use Rattle.std.specs.Prelude.{◌+◌, ◌-◌, ◌*◌, ◌++◌, ◌&&◌, ◌≡◌, ℕ, Bool, true, false, if◌then◌else◌, nat_eq, nat_lt, List, [], ◌∷◌, length, Option, Some, None, option_and_then, Result, Ok, Err}
 use Rattle.byteorder.specs.Endian.{little_bytes}
 use Rattle.ckrt_disk.specs.Disk.{IsOverwritten}
 use Rattle.ckrt_stored.specs.Layout.{number_at}
@@ -41,32 +41,37 @@ abbrev pub place_of : List ℕ → Option ℕ
 place_of image = option_and_then (λ a. place_at image a) (address_in image)
 
 -- texts, each with a zero after it
-pub texts : List (List ℕ) → List ℕ
+abbrev pub texts : List (List ℕ) → List ℕ
 texts [] = []
 texts (t ∷ ts) = t ++ (0 ∷ texts ts)
 
--- what the place has then: the address of the texts, which stand after the image, how many bytes they are, and how many of them are arguments and variables
+-- the image with the texts of arguments and variables after it
+abbrev pub followed : (arguments variables : List (List ℕ)) → List ℕ → List ℕ
+followed given set image = (image ++ texts given) ++ texts set
+
+-- what the place has then: the address of the texts, how many bytes they are, and how many of them are arguments and variables
 abbrev pub record_of : (size bytes arguments variables : ℕ) → List ℕ
 record_of size bytes arguments variables =
     little_bytes 4 (BEGIN + size) ++ little_bytes 4 bytes ++ little_bytes 4 arguments
     ++ little_bytes 4 variables
 
--- the image with texts after it, of which so many are arguments and so many variables
-abbrev pub HasWords : (arguments variables : ℕ) → (place : ℕ) → (after : List ℕ)
-    → (old new : List ℕ) → Type 0
-HasWords n m place after old new =
-    IsOverwritten (old ++ after) place (record_of (length old) (length after) n m) new
+-- It is written over that place, where the image is no longer then than the largest guest's memory.
+abbrev pub PutsAt : (place : ℕ) → (arguments variables : List (List ℕ)) → (old new : List ℕ)
+    → Result (Unit {0}) FileFault → Type 0
+PutsAt place given set old new (Ok done) =
+    (nat_lt MOST (length (followed given set old)) ≡ false)
+    × IsOverwritten (followed given set old) place
+    (record_of (length old) (length (followed given set old) - length old) (length given) (length set)) new
+PutsAt place given set old new (Err LongWords) =
+    nat_lt MOST (length (followed given set old)) ≡ true
+PutsAt place given set old new (Err fault) = fault ≡ OutOfMemory
 
--- An image gets arguments and variables where it takes words, and with them is no longer than the largest guest's memory.
+-- An image gets arguments and variables where it takes words.
+abbrev pub GetsAt : Option ℕ → (arguments variables : List (List ℕ)) → (old new : List ℕ)
+    → Result (Unit {0}) FileFault → Type 0
+GetsAt None given set old new result = result ≡ Err NoWords
+GetsAt (Some place) given set old new result = PutsAt place given set old new result
+
 abbrev pub GetsWords : (arguments variables : List (List ℕ)) → (old new : List ℕ)
     → Result (Unit {0}) FileFault → Type 0
-GetsWords given set old new (Ok done) =
-    (nat_le (length (old ++ (texts given ++ texts set))) MOST ≡ true)
-    × ((place : ℕ) → place_of old ≡ Some place
-    → HasWords (length given) (length set) place (texts given ++ texts set) old new)
-    × (is_some (place_of old) ≡ true)
-GetsWords given set old new (Err NoWords) = place_of old ≡ None
-GetsWords given set old new (Err LongWords) =
-    (is_some (place_of old) ≡ true)
-    × (nat_lt MOST (length (old ++ (texts given ++ texts set))) ≡ true)
-GetsWords given set old new (Err fault) = fault ≡ OutOfMemory
+GetsWords given set old new result = GetsAt (place_of old) given set old new result

@@ -1,7 +1,7 @@
 //! The words of a program, which its image gets where it takes some.
-ghost use Rattle.std.specs.Prelude.{◌≡◌, ◌≤◌, ◌<◌, ◌+◌, ◌++◌, ◌∷◌, ◌^◌, [], IfOk, IfErr, length, map};
+ghost use Rattle.std.specs.Prelude.{◌≡◌, ◌≤◌, ◌<◌, ◌+◌, ◌++◌, ◌∷◌, ◌^◌, [], IfOk, IfErr, IfSome, length, map};
 ghost use Rattle.ckrt_disk.specs.Disk.{IsOverwritten};
-ghost use Rattle.ckrt_cli_files.specs.ImageWords.{GetsWords, place_of, record_of, texts};
+ghost use Rattle.ckrt_cli_files.specs.ImageWords.{GetsWords, PutsAt, place_of, record_of, texts};
 ghost use Rattle.ckrt_cli_files.specs.declared.file.FileFault.TheVariants.{OutOfMemory};
 
 use crate::file::FileFault;
@@ -37,7 +37,8 @@ pub struct ProgramWords<'a> {
 
 /// Where an image takes words, if it takes any.
 fn place_of(image: &[u8]) -> Option<usize>
-    ensures { result ≡ place_of image.now }
+    ensures exact { result ≡ place_of image.now }
+    ensures inside { IfSome result (λ place. place + 16 ≤ length image.now) }
 {
     if image.len() < PLACE_BYTES || number_64(image, MARK_AT) != MARK {
         return None;
@@ -75,6 +76,8 @@ fn push_text(image: &mut Vec<u8>, text: &str) -> Result<(), FileFault>
 fn push_texts(image: &mut Vec<u8>, words: &[&str]) -> Result<(), FileFault>
     ensures pushed { IfOk result (λ _. image.new.items
         ≡ image.old.items ++ texts (map (λ s. s.now) words.now)) }
+    ensures counted { IfOk result (λ _.
+        length image.old.items + length words.now ≤ length image.new.items) }
     ensures fault { IfErr result (λ e. e ≡ OutOfMemory) }
 {
     for word in words {
@@ -97,26 +100,19 @@ fn record_of(size: u32, bytes: u32, arguments: u32, variables: u32) -> ArrayVec<
 }
 
 /// Puts the record into its place.
-fn put_record(image: &mut Vec<u8>, place: usize, record: &[u8])
-    requires { place + length record.now ≤ length image.old.items }
-    ensures { IsOverwritten image.old.items place record.now image.new.items }
+fn put_record(image: &mut Vec<u8>, place: usize, bytes: &[u8])
+    requires { place + length bytes.now ≤ length image.old.items }
+    ensures { IsOverwritten image.old.items place bytes.now image.new.items }
 {
-    image[place..place + record.len()].copy_from_slice(record);
+    image[place..place + bytes.len()].copy_from_slice(bytes);
 }
 
-/// Puts words into an image, which stand after its own bytes then.
-///
-/// # Errors
-///
-/// [`FileFault::NoWords`] where the image takes none, [`FileFault::LongWords`] where it is longer with them than the largest guest's
-/// memory, [`FileFault::OutOfMemory`] where memory is refused. The image is of no use then.
-pub fn put_words(image: &mut Vec<u8>, words: &ProgramWords<'_>) -> Result<(), FileFault>
-    ensures { GetsWords (map (λ s. s.now) words.now.arguments.now)
+/// Puts words after an image, and the record of them into its place.
+fn put_at(image: &mut Vec<u8>, place: usize, words: &ProgramWords<'_>) -> Result<(), FileFault>
+    requires { place + 16 ≤ length image.old.items }
+    ensures { PutsAt place (map (λ s. s.now) words.now.arguments.now)
         (map (λ s. s.now) words.now.variables.now) image.old.items image.new.items result }
 {
-    let Some(place) = place_of(image) else {
-        return Err(FileFault::NoWords);
-    };
     let size = image.len();
     push_texts(image, words.arguments)?;
     push_texts(image, words.variables)?;
@@ -132,4 +128,20 @@ pub fn put_words(image: &mut Vec<u8>, words: &ProgramWords<'_>) -> Result<(), Fi
     );
     put_record(image, place, &record);
     Ok(())
+}
+
+/// Puts words into an image, which stand after its own bytes then.
+///
+/// # Errors
+///
+/// [`FileFault::NoWords`] where the image takes none, [`FileFault::LongWords`] where it is longer with them than the largest guest's
+/// memory, [`FileFault::OutOfMemory`] where memory is refused. The image is of no use then.
+pub fn put_words(image: &mut Vec<u8>, words: &ProgramWords<'_>) -> Result<(), FileFault>
+    ensures { GetsWords (map (λ s. s.now) words.now.arguments.now)
+        (map (λ s. s.now) words.now.variables.now) image.old.items image.new.items result }
+{
+    match place_of(image) {
+        Some(place) => put_at(image, place, words),
+        None => Err(FileFault::NoWords),
+    }
 }

@@ -114,17 +114,18 @@ impl<'a, R, D> SystemSources<'a, R, D> {
 
     /// The same files, of which each image gets these words, if there are any.
     pub fn with_words(
-        self,
+        mut self,
         alloc: Global,
         words: Option<ProgramWords<'a>>,
     ) -> SystemSources<'a, R, D>
-        ensures openings { openings_of result ≡ openings_of self }
-        ensures opened { opened_by result ≡ opened_by self }
+        ensures openings { openings_of result ≡ openings_of self.entry }
+        ensures opened { opened_by result ≡ opened_by self.entry }
     {
-        SystemSources {
-            words: words.map(|words| (alloc, words)),
-            ..self
-        }
+        self.words = match words {
+            Some(words) => Some((alloc, words)),
+            None => None,
+        };
+        self
     }
 }
 
