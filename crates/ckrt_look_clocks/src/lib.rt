@@ -1,10 +1,12 @@
 //! Data races: which accesses of threads to one memory are unordered, told operation by operation.
 //!
 //! A [`Detector`] is given the operations of a run in their order: loads and stores, and what is passed from one holder to another,
-//! as a lock passes on to the thread that takes it what was seen by those that gave it up. It takes no memory once it is made.
+//! as a lock passes on to the thread that takes it what was seen by those that gave it up. It takes no memory once it is made: a part
+//! of the shadow that is touched first takes a slot of a room of so many, and where none is left the detector says so.
 #![tactic(auto)]
 
 mod clock;
+mod comparing;
 mod detector;
 mod found;
 mod laws;
@@ -20,4 +22,5 @@ pub use laws::{
 };
 pub use operation::{Access, Block, Operation, Place, THREADS};
 pub use pair::{PAIRS, Pair};
+pub use parts::PART_BYTES;
 pub use shadow::Cell;
