@@ -8,3 +8,4 @@ pub mod ChainLemmas
 pub mod BehindLemmas
 pub mod PartLemmas
 pub mod WithinLemmas
+pub mod SufficeLemmas

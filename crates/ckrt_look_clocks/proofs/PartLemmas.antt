@@ -64,9 +64,9 @@ other_place s c words room w word slot x is there other = elim (cases_slot (get_
   | inl none ↦ in_none s.by_part (slice_set c (1024 * slot + word % 1024) x) w none ∙ sym (in_none s.by_part c w none)
   | inr has ↦
       let apart : 1024 * has.0 + w % 1024 ≢ 1024 * slot + word % 1024 = λ e.
-          (let same : has.0 ≡ slot = omega (arith, e) in
-          let part : w / 1024 ≡ word / 1024 = is.apart (w / 1024) (word / 1024) slot (has.1 ∙ ap (λ k. Some k) same) there in
-          other (omega (arith, e, same, part))) in
+      (let same : has.0 ≡ slot = omega (arith, e) in
+      let part : w / 1024 ≡ word / 1024 = is.apart (w / 1024) (word / 1024) slot (has.1 ∙ ap (λ k. Some k) same) there in
+      other (omega (arith, e, same, part))) in
       in_slot s.by_part (slice_set c (1024 * slot + word % 1024) x) w has.0 has.1
       ∙ get_or-set_other c (1024 * slot + word % 1024) (1024 * has.0 + w % 1024) x no_accesses apart
       ∙ sym (in_slot s.by_part c w has.0 has.1)

@@ -85,7 +85,7 @@ touched_by part s = go (has_slot part s) refl
     go true e = inl (chosen (has_slot part s) s (taking part s) e)
     go false e = inr (passed_over (has_slot part s) s (taking part s) e)
 
-taken_slot : (part : ℕ) (s : Slots) → nat_lt s.taken s.count ≡ true → taking part s ≡ record s { by_part = slice_set s.by_part part (Some s.taken); taken = s.taken + 1 }
+pub taken_slot : (part : ℕ) (s : Slots) → nat_lt s.taken s.count ≡ true → taking part s ≡ record s { by_part = slice_set s.by_part part (Some s.taken); taken = s.taken + 1 }
 taken_slot part s e = chosen (nat_lt s.taken s.count) (record s { by_part = slice_set s.by_part part (Some s.taken); taken = s.taken + 1 }) (record s { is_full = true }) e
 
 no_slot_left : (part : ℕ) (s : Slots) → nat_lt s.taken s.count ≡ false → taking part s ≡ record s { is_full = true }

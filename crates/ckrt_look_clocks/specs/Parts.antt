@@ -28,7 +28,7 @@ has_slot part s = is_some (get_or s.by_part part None)
 abbrev pub taking : (part : ℕ) → Slots → Slots
 taking part s =
     if nat_lt s.taken s.count then
-      record s { by_part = slice_set s.by_part part (Some s.taken); taken = s.taken + 1 }
+    record s { by_part = slice_set s.by_part part (Some s.taken); taken = s.taken + 1 }
     else record s { is_full = true }
 
 -- a part is touched

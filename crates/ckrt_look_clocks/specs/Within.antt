@@ -53,7 +53,7 @@ NothingIsLeftOut =
     (holders words slots : ℕ) (os : List Operation)
     → is_full (behind_all_within os (fresh_within holders words slots)) ≡ false
     → (behind_all_within os (fresh_within holders words slots)).watched
-      ≡ behind_all os (fresh holders words)
+    ≡ behind_all os (fresh holders words)
 
 -- A ROOM FOR ALL PARTS ISN'T USED UP
 abbrev pub RoomForAllSuffices : Type 0

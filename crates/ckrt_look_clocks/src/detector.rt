@@ -99,12 +99,7 @@ impl Detector {
         ensures { self.new ≡ behind_within (operation.Pass from to place) self.old }
     {
         if !self.shadow.is_full() {
-            pass(
-                &mut self.clocks,
-                usize::from(from),
-                usize::from(to),
-                place,
-            );
+            pass(&mut self.clocks, usize::from(from), usize::from(to), place);
         }
     }
 

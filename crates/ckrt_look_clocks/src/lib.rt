@@ -18,7 +18,8 @@ mod shadow;
 pub use clock::Clock;
 pub use detector::Detector;
 pub use laws::{
-    clocks_are_exact, kept_races_are_found, only_races_are_found, seen_behind_seen, seen_by_chains,
+    clocks_are_exact, kept_races_are_found, nothing_is_left_out, only_races_are_found,
+    room_for_all_suffices, seen_behind_seen, seen_by_chains,
 };
 pub use operation::{Access, Block, Operation, Place, THREADS};
 pub use pair::{PAIRS, Pair};
