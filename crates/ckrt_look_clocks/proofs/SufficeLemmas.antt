@@ -9,7 +9,7 @@ use Rattle.ckrt_look_clocks.specs.declared.operation.Operation.TheVariants as op
 use Rattle.ckrt_look_clocks.specs.declared.shadow.Cell.{Cell}
 use Rattle.ckrt_look_clocks.specs.Detection.{Watched, access_at, behind, few_words, given_with, kept, no_accesses, renewed, word_of}
 use Rattle.ckrt_look_clocks.specs.Parts.{Slots, has_slot, parts_over, taking, touched, touched_parts}
-use Rattle.ckrt_look_clocks.specs.Within.{Detected, RoomForAllSuffices, behind_all_within, behind_within, fresh_within, is_full, noted_with, slots_for}
+use Rattle.ckrt_look_clocks.specs.Within.{Detected, RoomForAllSuffices, noted_all, noted_one, fresh_within, is_full, noted_with, slots_for}
 use Rattle.ckrt_look_clocks.proofs.ListLemmas.{chosen, passed_over}
 use Rattle.ckrt_look_clocks.proofs.ClockLemmas.{less_test}
 use Rattle.ckrt_look_clocks.proofs.PartLemmas.{no_slot}
@@ -111,7 +111,7 @@ record Fine (words : ℕ) (d : Detected) : Type 0 where
   pub slots : Suffices words d.slots
   pub size : length d.watched.shadow ≡ words
 
-fine_behind : (words : ℕ) (o : Operation) (d : Detected) → Fine words d → Fine words (behind_within o d)
+fine_behind : (words : ℕ) (o : Operation) (d : Detected) → Fine words d → Fine words (noted_one o d)
 fine_behind words o d is =
     let s : Slots = slots_for o d.watched d.slots in
     let more : Suffices words s = slots_suffice words o d.watched d.slots is.size is.slots in
@@ -120,9 +120,9 @@ fine_behind words o d is =
       size = behind_size o d.watched ∙ is.size;
     })
 
-fine_all : (words : ℕ) (os : List Operation) (d : Detected) → Fine words d → Fine words (behind_all_within os d)
+fine_all : (words : ℕ) (os : List Operation) (d : Detected) → Fine words d → Fine words (noted_all os d)
 fine_all words [] d is = is
-fine_all words (o ∷ os) d is = fine_all words os (behind_within o d) (fine_behind words o d is)
+fine_all words (o ∷ os) d is = fine_all words os (noted_one o d) (fine_behind words o d is)
 
 pub room_for_all : RoomForAllSuffices
 room_for_all holders words slots os enough =

@@ -12,16 +12,16 @@ use Rattle.ckrt_look_clocks.specs.declared.operation.Operation.TheVariants as op
 use Rattle.ckrt_look_clocks.specs.declared.shadow.Cell.{Cell}
 use Rattle.ckrt_look_clocks.specs.Detection.{Found, Watched, access_at, behind, behind_all, compared_all, few_words, fresh, given_anew, kept, no_accesses, renewed, word_of}
 use Rattle.ckrt_look_clocks.specs.Parts.{HaveSlots, Shadowed, Slots, has_slot, parts_over, taking, touched, touched_parts}
-use Rattle.ckrt_look_clocks.specs.Within.{Detected, NothingIsLeftOut, behind_all_within, behind_within, detected_by, fresh_within, is_full, noted_with, slots_for}
+use Rattle.ckrt_look_clocks.specs.Within.{Detected, NothingIsLeftOut, noted_all, noted_one, detected_by, fresh_within, is_full, noted_with, slots_for}
 use Rattle.ckrt_look_clocks.proofs.ListLemmas.{chosen, passed_over}
 use Rattle.ckrt_look_clocks.proofs.ClockLemmas.{less_test, not_less_test}
 
 -- A room that is used up
-pub within_none : (o : Operation) (d : Detected) → is_full d ≡ true → d ≡ behind_within o d
+pub within_none : (o : Operation) (d : Detected) → is_full d ≡ true → d ≡ noted_one o d
 within_none o d full = sym (chosen (is_full d) d (noted_with (slots_for o d.watched d.slots) o d.watched) full)
 
 -- one that isn't, with these slots then
-pub within_some : (o : Operation) (d : Detected) (s : Slots) → is_full d ≡ false → slots_for o d.watched d.slots ≡ s → noted_with s o d.watched ≡ behind_within o d
+pub within_some : (o : Operation) (d : Detected) (s : Slots) → is_full d ≡ false → slots_for o d.watched d.slots ≡ s → noted_with s o d.watched ≡ noted_one o d
 within_some o d s left is =
     sym (passed_over (is_full d) d (noted_with (slots_for o d.watched d.slots) o d.watched) left ∙ ap (λ (t : Slots). noted_with t o d.watched) is)
 
@@ -36,14 +36,14 @@ noted_open s o w e = ap (λ (v : Watched). with_watched s v) (sym (passed_over s
 
 -- AN ACCESS
 module _ (clocks : List Clock) (a : Access) (s : Shadowed) (f : Found) where
-  pub access_full : s.slots.is_full ≡ true → detected_by clocks s f ≡ behind_within (operation.Access a) (detected_by clocks s f)
+  pub access_full : s.slots.is_full ≡ true → detected_by clocks s f ≡ noted_one (operation.Access a) (detected_by clocks s f)
   access_full full = within_none (operation.Access a) (detected_by clocks s f) full
 
   same_slots : length s.cells ≤ word_of a → slots_for (operation.Access a) (detected_by clocks s f).watched s.slots ≡ s.slots
   same_slots beyond = passed_over (nat_lt (word_of a) (length s.cells)) (touched (word_of a / 1024) s.slots) s.slots (not_less_test (word_of a) (length s.cells) beyond)
 
   -- of a word that the memory hasn't got
-  pub access_beyond : s.slots.is_full ≡ false → length s.cells ≤ word_of a → detected_by clocks s f ≡ behind_within (operation.Access a) (detected_by clocks s f)
+  pub access_beyond : s.slots.is_full ≡ false → length s.cells ≤ word_of a → detected_by clocks s f ≡ noted_one (operation.Access a) (detected_by clocks s f)
   access_beyond left beyond =
       let w : Watched = (detected_by clocks s f).watched in
       ap (λ (v : Watched). with_watched s.slots v) (sym (ap (λ c. access_at a c w) (slice_get_past s.cells (word_of a) beyond)))
@@ -55,7 +55,7 @@ module _ (clocks : List Clock) (a : Access) (s : Shadowed) (f : Found) where
   touching inside = chosen (nat_lt (word_of a) (length s.cells)) (touched (word_of a / 1024) s.slots) s.slots (less_test (word_of a) (length s.cells) inside)
 
   pub access_used_up : (t : Shadowed) → s.slots.is_full ≡ false → word_of a < length s.cells → t.slots ≡ touched (word_of a / 1024) s.slots → t.cells ≡ s.cells → t.slots.is_full ≡ true
-      → detected_by clocks t f ≡ behind_within (operation.Access a) (detected_by clocks s f)
+      → detected_by clocks t f ≡ noted_one (operation.Access a) (detected_by clocks s f)
   access_used_up t left inside slots cells full =
       let w : Watched = (detected_by clocks s f).watched in
       ap (λ (l : List Cell). with_watched t.slots (record { clocks = clocks; shadow = l; found = f })) cells
@@ -64,7 +64,7 @@ module _ (clocks : List Clock) (a : Access) (s : Shadowed) (f : Found) where
 
   pub access_noted : (t u : Shadowed) (g : Found) → s.slots.is_full ≡ false → word_of a < length s.cells → t.slots ≡ touched (word_of a / 1024) s.slots → t.cells ≡ s.cells → t.slots.is_full ≡ false
       → u.slots ≡ t.slots → u.cells ≡ slice_set t.cells (word_of a) (kept a (get_or t.cells (word_of a) no_accesses)) → g ≡ compared_all clocks a (get_or t.cells (word_of a) no_accesses) f
-      → detected_by clocks u g ≡ behind_within (operation.Access a) (detected_by clocks s f)
+      → detected_by clocks u g ≡ noted_one (operation.Access a) (detected_by clocks s f)
   access_noted t u g left inside slots cells left' stay written found =
       let w : Watched = (detected_by clocks s f).watched in
       let made : Cell → List Cell → Watched = λ c l. (record { clocks = clocks; shadow = slice_set l (word_of a) (kept a c); found = compared_all clocks a c f }) in
@@ -171,7 +171,7 @@ words_have n first s some inside left word ge lt =
 
 -- MEMORY THAT IS GIVEN ANEW
 module _ (clocks : List Clock) (m : Block) (s : Shadowed) (f : Found) where
-  pub renew_full : s.slots.is_full ≡ true → detected_by clocks s f ≡ behind_within (operation.Renew m) (detected_by clocks s f)
+  pub renew_full : s.slots.is_full ≡ true → detected_by clocks s f ≡ noted_one (operation.Renew m) (detected_by clocks s f)
   renew_full full = within_none (operation.Renew m) (detected_by clocks s f) full
 
   few_slots : (n : ℕ) → n ≡ few_words m s.cells → slots_for (operation.Renew m) (detected_by clocks s f).watched s.slots ≡ touched_parts (parts_over n m.first) (m.first / 1024) s.slots
@@ -184,7 +184,7 @@ module _ (clocks : List Clock) (m : Block) (s : Shadowed) (f : Found) where
       ∙ ap (λ k. (let x : Watched = record { clocks = clocks; shadow = renewed k m s.cells; found = f } in x)) is
 
   -- where the memory has none of its words
-  pub renew_none : (n : ℕ) → s.slots.is_full ≡ false → n ≡ few_words m s.cells → n ≡ 0 → detected_by clocks s f ≡ behind_within (operation.Renew m) (detected_by clocks s f)
+  pub renew_none : (n : ℕ) → s.slots.is_full ≡ false → n ≡ few_words m s.cells → n ≡ 0 → detected_by clocks s f ≡ noted_one (operation.Renew m) (detected_by clocks s f)
   renew_none n left is none =
       let few : 0 ≡ few_words m s.cells = sym none ∙ is in
       ap (λ (v : Watched). with_watched s.slots v) (few_renewed 0 s.cells few refl)
@@ -192,14 +192,14 @@ module _ (clocks : List Clock) (m : Block) (s : Shadowed) (f : Found) where
       ∙ within_some (operation.Renew m) (detected_by clocks s f) s.slots left (few_slots 0 few)
 
   pub renew_used_up : (n : ℕ) (t : Shadowed) → s.slots.is_full ≡ false → n ≡ few_words m s.cells → t.slots ≡ touched_parts (parts_over n m.first) (m.first / 1024) s.slots → t.cells ≡ s.cells → t.slots.is_full ≡ true
-      → detected_by clocks t f ≡ behind_within (operation.Renew m) (detected_by clocks s f)
+      → detected_by clocks t f ≡ noted_one (operation.Renew m) (detected_by clocks s f)
   renew_used_up n t left is slots cells full =
       ap (λ (l : List Cell). with_watched t.slots (record { clocks = clocks; shadow = l; found = f })) cells
       ∙ noted_full t.slots (operation.Renew m) (detected_by clocks s f).watched full
       ∙ within_some (operation.Renew m) (detected_by clocks s f) t.slots left (few_slots n is ∙ sym slots)
 
   pub renew_noted : (n : ℕ) (t u : Shadowed) → s.slots.is_full ≡ false → n ≡ few_words m s.cells → t.slots ≡ touched_parts (parts_over n m.first) (m.first / 1024) s.slots → t.cells ≡ s.cells → t.slots.is_full ≡ false
-      → u.slots ≡ t.slots → u.cells ≡ renewed n m t.cells → detected_by clocks u f ≡ behind_within (operation.Renew m) (detected_by clocks s f)
+      → u.slots ≡ t.slots → u.cells ≡ renewed n m t.cells → detected_by clocks u f ≡ noted_one (operation.Renew m) (detected_by clocks s f)
   renew_noted n t u left is slots cells left' stay written =
       ap (λ (l : List Cell). with_watched u.slots (record { clocks = clocks; shadow = l; found = f })) written
       ∙ ap (λ (v : Watched). with_watched u.slots v) (few_renewed n t.cells is cells)
@@ -219,33 +219,33 @@ for_open (operation.Access a) w s = go (nat_lt (word_of a) (length w.shadow)) re
 for_open (operation.Pass from to p) w s = λ left. left
 for_open (operation.Renew m) w s = open_before_all (parts_over (few_words m w.shadow) m.first) (m.first / 1024) s
 
-pub open_one : (o : Operation) (d : Detected) → is_full (behind_within o d) ≡ false → is_full d ≡ false
+pub open_one : (o : Operation) (d : Detected) → is_full (noted_one o d) ≡ false → is_full d ≡ false
 open_one o d = go (is_full d) refl
   where
-    go : (t : Bool) → is_full d ≡ t → is_full (behind_within o d) ≡ false → is_full d ≡ false
+    go : (t : Bool) → is_full d ≡ t → is_full (noted_one o d) ≡ false → is_full d ≡ false
     go true e left = ap is_full (within_none o d e) ∙ left
     go false e left = e
 
-pub watched_one : (o : Operation) (d : Detected) → is_full (behind_within o d) ≡ false → (behind_within o d).watched ≡ behind o d.watched
+pub watched_one : (o : Operation) (d : Detected) → is_full (noted_one o d) ≡ false → (noted_one o d).watched ≡ behind o d.watched
 watched_one o d left =
     let s : Slots = slots_for o d.watched d.slots in
-    let is : noted_with s o d.watched ≡ behind_within o d = within_some o d s (open_one o d left) refl in
+    let is : noted_with s o d.watched ≡ noted_one o d = within_some o d s (open_one o d left) refl in
     let still : s.is_full ≡ false = ap is_full is ∙ left in
     ap (λ (x : Detected). x.watched) (sym is) ∙ passed_over s.is_full d.watched (behind o d.watched) still
 
-pub open_all : (os : List Operation) (d : Detected) → is_full (behind_all_within os d) ≡ false → is_full d ≡ false
+pub open_all : (os : List Operation) (d : Detected) → is_full (noted_all os d) ≡ false → is_full d ≡ false
 open_all [] d left = left
-open_all (o ∷ os) d left = open_one o d (open_all os (behind_within o d) left)
+open_all (o ∷ os) d left = open_one o d (open_all os (noted_one o d) left)
 
-pub watched_all : (os : List Operation) (d : Detected) → is_full (behind_all_within os d) ≡ false → (behind_all_within os d).watched ≡ behind_all os d.watched
+pub watched_all : (os : List Operation) (d : Detected) → is_full (noted_all os d) ≡ false → (noted_all os d).watched ≡ behind_all os d.watched
 watched_all [] d left = refl
 watched_all (o ∷ os) d left =
-    watched_all os (behind_within o d) left ∙ ap (λ (w : Watched). behind_all os w) (watched_one o d (open_all os (behind_within o d) left))
+    watched_all os (noted_one o d) left ∙ ap (λ (w : Watched). behind_all os w) (watched_one o d (open_all os (noted_one o d) left))
 
 pub nothing_left_out : NothingIsLeftOut
 nothing_left_out holders words slots os left = watched_all os (fresh_within holders words slots) left
 
 -- behind two lists of operations
-pub within_both : (os more : List Operation) (d : Detected) → behind_all_within (os ++ more) d ≡ behind_all_within more (behind_all_within os d)
+pub within_both : (os more : List Operation) (d : Detected) → noted_all (os ++ more) d ≡ noted_all more (noted_all os d)
 within_both [] more d = refl
-within_both (o ∷ os) more d = within_both os more (behind_within o d)
+within_both (o ∷ os) more d = within_both os more (noted_one o d)

@@ -33,14 +33,14 @@ abbrev pub noted_with : Slots → Operation → Watched → Detected
 noted_with s o w = record { watched = if s.is_full then w else behind o w; slots = s }
 
 -- behind an operation
-abbrev pub behind_within : Operation → Detected → Detected
-behind_within o d =
+abbrev pub noted_one : Operation → Detected → Detected
+noted_one o d =
     if is_full d then d else noted_with (slots_for o d.watched d.slots) o d.watched
 
 -- behind operations in order
-abbrev pub behind_all_within : List Operation → Detected → Detected
-behind_all_within [] d = d
-behind_all_within (o ∷ os) d = behind_all_within os (behind_within o d)
+abbrev pub noted_all : List Operation → Detected → Detected
+noted_all [] d = d
+noted_all (o ∷ os) d = noted_all os (noted_one o d)
 
 -- nothing was done yet by so many holders to so many words, in a room of so many slots
 abbrev pub fresh_within : (holders words slots : ℕ) → Detected
@@ -51,12 +51,12 @@ fresh_within holders words slots =
 abbrev pub NothingIsLeftOut : Type 0
 NothingIsLeftOut =
     (holders words slots : ℕ) (os : List Operation)
-    → is_full (behind_all_within os (fresh_within holders words slots)) ≡ false
-    → (behind_all_within os (fresh_within holders words slots)).watched
+    → is_full (noted_all os (fresh_within holders words slots)) ≡ false
+    → (noted_all os (fresh_within holders words slots)).watched
     ≡ behind_all os (fresh holders words)
 
 -- A ROOM FOR ALL PARTS ISN'T USED UP
 abbrev pub RoomForAllSuffices : Type 0
 RoomForAllSuffices =
     (holders words slots : ℕ) (os : List Operation) → words / 1024 + 1 ≤ slots
-    → is_full (behind_all_within os (fresh_within holders words slots)) ≡ false
+    → is_full (noted_all os (fresh_within holders words slots)) ≡ false

@@ -49,7 +49,7 @@ fn clear_clocks(clocks: &mut Vec<Clock>)
 }
 
 impl Detector {
-    ghost use Rattle.ckrt_look_clocks.specs.Within.{behind_within, fresh_within, is_full};
+    ghost use Rattle.ckrt_look_clocks.specs.Within.{noted_one, fresh_within, is_full};
 
     /// Nothing was done yet, by so many holders, of which the first 65 are threads, to a memory of so many words. It takes 1,040
     /// bytes a holder, 16 bytes for each part of 1,024 words, and a room of so many slots, of [`PART_BYTES`](crate::PART_BYTES) each.
@@ -88,7 +88,7 @@ impl Detector {
 
     /// A thread loads or stores.
     pub fn access(&mut self, access: &Access)
-        ensures { self.new ≡ behind_within (operation.Access access.now) self.old }
+        ensures { self.new ≡ noted_one (operation.Access access.now) self.old }
     {
         let clocks = self.clocks.as_slice();
         self.shadow.access(clocks, access, &mut self.found);
@@ -96,7 +96,7 @@ impl Detector {
 
     /// What one holder has seen at a place another has seen from there on.
     fn pass(&mut self, from: u16, to: u16, place: Place)
-        ensures { self.new ≡ behind_within (operation.Pass from to place) self.old }
+        ensures { self.new ≡ noted_one (operation.Pass from to place) self.old }
     {
         if !self.shadow.is_full() {
             pass(&mut self.clocks, usize::from(from), usize::from(to), place);
@@ -105,14 +105,14 @@ impl Detector {
 
     /// Memory is given anew: what was done to it before is compared with nothing. Words that the memory doesn't have are passed over.
     pub fn renew(&mut self, block: &Block)
-        ensures { self.new ≡ behind_within (operation.Renew block.now) self.old }
+        ensures { self.new ≡ noted_one (operation.Renew block.now) self.old }
     {
         self.shadow.renew(block);
     }
 
     /// The next operation.
     pub fn note(&mut self, operation: &Operation)
-        ensures { self.new ≡ behind_within operation.now self.old }
+        ensures { self.new ≡ noted_one operation.now self.old }
     {
         match operation {
             Operation::Access(access) => self.access(access),

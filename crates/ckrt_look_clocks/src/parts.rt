@@ -129,7 +129,7 @@ fn put_in(cells: &mut Vec<Cell>, place: usize, block: &Block)
 
 impl Shadow {
     ghost use Rattle.ckrt_look_clocks.specs.Parts.{no_shadow};
-    ghost use Rattle.ckrt_look_clocks.specs.Within.{behind_within, detected_by};
+    ghost use Rattle.ckrt_look_clocks.specs.Within.{noted_one, detected_by};
 
     /// Nothing was done yet to a memory of so many words, in a room of so many slots.
     pub(crate) fn new(alloc: Global, words: usize, slots: usize) -> Result<Shadow, AllocError>
@@ -233,7 +233,7 @@ impl Shadow {
     /// A thread loads or stores.
     pub(crate) fn access(&mut self, clocks: &[Clock], access: &Access, found: &mut Findings)
         ensures { detected_by clocks.now self.new (found_in found.new)
-            ≡ behind_within (operation.Access access.now)
+            ≡ noted_one (operation.Access access.now)
             (detected_by clocks.now self.old (found_in found.old)) }
     {
         let word = (access.address / 4) as usize;
@@ -293,7 +293,7 @@ impl Shadow {
     pub(crate) fn renew(&mut self, block: &Block)
         ensures { (clocks : List ClockValue) (found : Found)
             → detected_by clocks self.new found
-            ≡ behind_within (operation.Renew block.now) (detected_by clocks self.old found) }
+            ≡ noted_one (operation.Renew block.now) (detected_by clocks self.old found) }
     {
         let few = self.few_words(block);
         if self.is_full || few == 0 {
