@@ -31,6 +31,8 @@ mod replies;
 #[cfg(test)]
 mod requests;
 #[cfg(test)]
+mod rooms;
+#[cfg(test)]
 mod searches;
 #[cfg(test)]
 mod tables;
