@@ -1,5 +1,5 @@
 -- A room for all parts isn't used up.
-use Rattle.std.proofs.Common.{◌≡◌, ◌≤◌, ◌<◌, ℕ, zero, suc, ◌+◌, ◌-◌, ◌/◌, nat_lt, ◌==◌, Bool, true, false, List, [], ◌∷◌, length, get_or, slice_get, slice_set, replicate, Option, None, Some, refl, sym, ap, ◌∙◌, subst, arith}
+use Rattle.std.proofs.Common.{◌≡◌, ◌≤◌, ◌<◌, ℕ, zero, suc, ◌+◌, ◌/◌, nat_lt, Bool, true, false, List, [], ◌∷◌, length, get_or, slice_get, slice_set, replicate, Option, None, Some, refl, sym, ◌∙◌, subst, arith}
 use Rattle.std.proofs.lemmas.Bool.Decides.{nat_tests}
 use Rattle.std.proofs.lemmas.List.{length-replicate, length-set}
 use Rattle.ckrt_look_clocks.specs.declared.operation.Access.{Access}
@@ -9,7 +9,7 @@ use Rattle.ckrt_look_clocks.specs.declared.operation.Operation.TheVariants as op
 use Rattle.ckrt_look_clocks.specs.declared.shadow.Cell.{Cell}
 use Rattle.ckrt_look_clocks.specs.Detection.{Watched, access_at, behind, few_words, given_with, kept, no_accesses, renewed, word_of}
 use Rattle.ckrt_look_clocks.specs.Parts.{Slots, has_slot, parts_over, taking, touched, touched_parts}
-use Rattle.ckrt_look_clocks.specs.Within.{Detected, RoomForAllSuffices, noted_all, noted_one, fresh_within, is_full, noted_with, slots_for}
+use Rattle.ckrt_look_clocks.specs.Within.{Detected, RoomForAllSuffices, noted_all, noted_one, fresh_within, slots_for}
 use Rattle.ckrt_look_clocks.proofs.ListLemmas.{chosen, passed_over}
 use Rattle.ckrt_look_clocks.proofs.ClockLemmas.{less_test}
 use Rattle.ckrt_look_clocks.proofs.PartLemmas.{no_slot}

@@ -1,16 +1,16 @@
 -- What is detected within a room.
-use Rattle.std.proofs.Common.{◌≡◌, ◌≢◌, ◌⊎◌, inl, inr, ◌≤◌, ◌<◌, ℕ, zero, suc, ◌+◌, ◌-◌, ◌*◌, ◌/◌, nat_lt, ◌==◌, Bool, true, false, if◌then◌else◌, List, [], ◌∷◌, ◌++◌, length, get_or, slice_get, slice_set, replicate, Option, None, Some, is_some, refl, sym, ap, ◌∙◌, subst, arith}
-use Rattle.std.proofs.lemmas.Bool.{cases_eq, cases_lt}
+use Rattle.std.proofs.Common.{◌≡◌, ◌⊎◌, inl, inr, ◌≤◌, ◌<◌, ℕ, zero, suc, ◌+◌, ◌-◌, ◌/◌, nat_lt, ◌==◌, Bool, true, false, List, [], ◌∷◌, ◌++◌, length, get_or, slice_set, Option, None, Some, is_some, refl, sym, ap, ◌∙◌, subst, arith}
+use Rattle.std.proofs.lemmas.Bool.{cases_eq}
 use Rattle.std.proofs.lemmas.Bool.Decides.{nat_tests}
 use Rattle.std.proofs.lemmas.Option.{slice_get-get_or, slice_get_past}
-use Rattle.std.proofs.lemmas.List.{get_or-set_other, get_or-set_same, length-set}
+use Rattle.std.proofs.lemmas.List.{get_or-set_same, length-set}
 use Rattle.ckrt_look_clocks.specs.declared.clock.Clock.{Clock}
 use Rattle.ckrt_look_clocks.specs.declared.operation.Access.{Access}
 use Rattle.ckrt_look_clocks.specs.declared.operation.Block.{Block}
 use Rattle.ckrt_look_clocks.specs.declared.operation.Operation.{Operation}
 use Rattle.ckrt_look_clocks.specs.declared.operation.Operation.TheVariants as operation
 use Rattle.ckrt_look_clocks.specs.declared.shadow.Cell.{Cell}
-use Rattle.ckrt_look_clocks.specs.Detection.{Found, Watched, access_at, behind, behind_all, compared_all, few_words, fresh, given_anew, kept, no_accesses, renewed, word_of}
+use Rattle.ckrt_look_clocks.specs.Detection.{Found, Watched, access_at, behind, behind_all, compared_all, few_words, kept, no_accesses, renewed, word_of}
 use Rattle.ckrt_look_clocks.specs.Parts.{HaveSlots, Shadowed, Slots, has_slot, parts_over, taking, touched, touched_parts}
 use Rattle.ckrt_look_clocks.specs.Within.{Detected, NothingIsLeftOut, noted_all, noted_one, detected_by, fresh_within, is_full, noted_with, slots_for}
 use Rattle.ckrt_look_clocks.proofs.ListLemmas.{chosen, passed_over}

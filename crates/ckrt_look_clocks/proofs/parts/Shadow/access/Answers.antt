@@ -1,4 +1,4 @@
-use Rattle.std.proofs.Common.{◌≡◌, ◌<◌, ◌≤◌, ◌∙◌, false, length, ap, sym, arith}
+use Rattle.std.proofs.Common.{◌≡◌, ◌<◌, ◌∙◌, length, ap, sym, arith}
 use Rattle.ckrt_look_clocks.specs.Detection.{found_in, word_of}
 use Rattle.ckrt_look_clocks.specs.Parts.{Shadowed}
 use Rattle.ckrt_look_clocks.proofs.PartLemmas.{cells_size}

@@ -1,4 +1,4 @@
-use Rattle.std.proofs.Common.{◌≡◌, ◌∙◌, length, ap, sym}
+use Rattle.std.proofs.Common.{◌∙◌, length, ap, sym}
 use Rattle.ckrt_look_clocks.specs.Parts.{Shadowed}
 use Rattle.ckrt_look_clocks.proofs.PartLemmas.{cells_size, none_done}
 use Rattle.ckrt_look_clocks.proofs.parts.Shadow.clear.Goals as goal

@@ -1,4 +1,4 @@
-use Rattle.std.proofs.Common.{◌≡◌, ◌+◌, ◌/◌, refl}
+use Rattle.std.proofs.Common.{◌+◌, ◌/◌, refl}
 use Rattle.ckrt_look_clocks.proofs.PartLemmas.{none_done}
 use Rattle.ckrt_look_clocks.proofs.parts.Shadow.new.Goals as goal
 

@@ -1,5 +1,4 @@
-use Rattle.std.proofs.Common.{◌≡◌, ◌<◌, ◌≤◌, ◌∙◌, ◌+◌, ◌/◌, ◌-◌, ℕ, false, length, ap, sym, subst, arith}
-use Rattle.ckrt_look_clocks.specs.Detection.{few_words}
+use Rattle.std.proofs.Common.{◌≡◌, ◌≤◌, ◌∙◌, ◌+◌, ◌/◌, ◌-◌, false, length, ap, sym, subst, arith}
 use Rattle.ckrt_look_clocks.specs.Parts.{HaveSlots, Shadowed, Slots, parts_over, touched_parts}
 use Rattle.ckrt_look_clocks.proofs.PartLemmas.{cells_size}
 use Rattle.ckrt_look_clocks.proofs.WithinLemmas.{some_parts, words_have}

@@ -1,4 +1,4 @@
-use Rattle.std.proofs.Common.{◌≡◌, ◌<◌, ◌∙◌, ◌+◌, ◌*◌, List, Some, None, true, length, get_or, slice_set, ap, sym, arith, rules}
+use Rattle.std.proofs.Common.{◌≡◌, ◌<◌, ◌∙◌, List, Some, None, true, length, get_or, slice_set, ap, arith, rules}
 use Rattle.std.specs.Result.{is_ok}
 use Rattle.std.specs.Vec.{vec_len}
 use Rattle.ckrt_look_clocks.specs.declared.shadow.Cell.{Cell}
