@@ -31,8 +31,6 @@ mod replies;
 #[cfg(test)]
 mod requests;
 #[cfg(test)]
-mod rooms;
-#[cfg(test)]
 mod searches;
 #[cfg(test)]
 mod tables;
