@@ -1,12 +1,15 @@
 -- What is noted keeps the sizes of a detector.
-use Rattle.std.proofs.Common.{◌≡◌, ◌∙◌, ℕ, zero, suc, ◌+◌, List, [], ◌∷◌, length, slice_get, Option, Some, None, refl}
+use Rattle.std.proofs.Common.{◌≡◌, ◌∙◌, ℕ, Bool, true, false, List, [], ◌∷◌, length, slice_get, Option, Some, None, refl, sym, ap}
 use Rattle.std.proofs.lemmas.List.{length-set}
 use Rattle.ckrt_look_clocks.specs.declared.operation.Access.{Access}
-use Rattle.ckrt_look_clocks.specs.declared.operation.Block.{Block}
 use Rattle.ckrt_look_clocks.specs.declared.operation.Operation.{Operation}
 use Rattle.ckrt_look_clocks.specs.declared.operation.Operation.TheVariants as operation
 use Rattle.ckrt_look_clocks.specs.declared.shadow.Cell.{Cell}
-use Rattle.ckrt_look_clocks.specs.Detection.{Watched, access_at, behind, behind_all, clock_at, clock_of, few_words, given_with, joined, kept, renewed, word_of}
+use Rattle.ckrt_look_clocks.specs.Detection.{Watched, access_at, behind, clock_at, clock_of, joined, word_of}
+use Rattle.ckrt_look_clocks.specs.Parts.{Slots}
+use Rattle.ckrt_look_clocks.specs.Within.{Detected, is_full, noted_all, noted_one, noted_with, slots_for}
+use Rattle.ckrt_look_clocks.proofs.SufficeLemmas.{behind_size}
+use Rattle.ckrt_look_clocks.proofs.WithinLemmas.{noted_full, noted_open, within_none, within_some}
 
 holders_at : (a : Access) (c : Option Cell) (w : Watched) → length (access_at a c w).clocks ≡ length w.clocks
 holders_at a None w = refl
@@ -18,25 +21,27 @@ holders_behind (operation.Renew m) w = refl
 holders_behind (operation.Pass from to p) w =
     length-set w.clocks to (record { seen = joined (clock_of to w.clocks).seen (clock_at from p w.clocks).seen })
 
+-- an operation that is noted or not
+kept_by : (f : Watched → ℕ) → ((o : Operation) (w : Watched) → f (behind o w) ≡ f w) → (o : Operation) (d : Detected) → f (noted_one o d).watched ≡ f d.watched
+kept_by f same o d = go (is_full d) refl
+  where
+    s : Slots
+    s = slots_for o d.watched d.slots
+
+    on : (t : Bool) → s.is_full ≡ t → f (noted_with s o d.watched).watched ≡ f d.watched
+    on true e = sym (ap (λ (v : Detected). f v.watched) (noted_full s o d.watched e))
+    on false e = sym (ap (λ (v : Detected). f v.watched) (noted_open s o d.watched e)) ∙ same o d.watched
+
+    go : (t : Bool) → is_full d ≡ t → f (noted_one o d).watched ≡ f d.watched
+    go true e = sym (ap (λ (v : Detected). f v.watched) (within_none o d e))
+    go false e = sym (ap (λ (v : Detected). f v.watched) (within_some o d s e refl)) ∙ on s.is_full refl
+
 -- as many holders
-pub same_holders : (os : List Operation) (w : Watched) → length (behind_all os w).clocks ≡ length w.clocks
-same_holders [] w = refl
-same_holders (o ∷ os) w = same_holders os (behind o w) ∙ holders_behind o w
-
-words_at : (a : Access) (c : Option Cell) (w : Watched) → length (access_at a c w).shadow ≡ length w.shadow
-words_at a None w = refl
-words_at a (Some c) w = length-set w.shadow (word_of a) (kept a c)
-
-as_many : (n : ℕ) (m : Block) (shadow : List Cell) → length (renewed n m shadow) ≡ length shadow
-as_many zero m shadow = refl
-as_many (suc n) m shadow = length-set (renewed n m shadow) (m.first + n) (given_with m) ∙ as_many n m shadow
-
-words_behind : (o : Operation) (w : Watched) → length (behind o w).shadow ≡ length w.shadow
-words_behind (operation.Access a) w = words_at a (slice_get w.shadow (word_of a)) w
-words_behind (operation.Pass from to p) w = refl
-words_behind (operation.Renew m) w = as_many (few_words m w.shadow) m w.shadow
+pub same_holders : (os : List Operation) (d : Detected) → length (noted_all os d).watched.clocks ≡ length d.watched.clocks
+same_holders [] d = refl
+same_holders (o ∷ os) d = same_holders os (noted_one o d) ∙ kept_by (λ w. length w.clocks) holders_behind o d
 
 -- and as many words
-pub same_words : (os : List Operation) (w : Watched) → length (behind_all os w).shadow ≡ length w.shadow
-same_words [] w = refl
-same_words (o ∷ os) w = same_words os (behind o w) ∙ words_behind o w
+pub same_words : (os : List Operation) (d : Detected) → length (noted_all os d).watched.shadow ≡ length d.watched.shadow
+same_words [] d = refl
+same_words (o ∷ os) d = same_words os (noted_one o d) ∙ kept_by (λ w. length w.shadow) behind_size o d

@@ -10,7 +10,9 @@ use Rattle.ckrt_machine.specs.Steps.{State}
 use Rattle.ckrt_machine.proofs.FoldLaws.{accepted_on, state_on}
 use Rattle.ckrt_schedule.specs.declared.next.Next.TheVariants.{Submit, End}
 use Rattle.ckrt_schedule.specs.declared.next.ScheduleEnd.{ScheduleEnd}
-use Rattle.ckrt_look_clocks.specs.Detection.{Watched, behind_all, fresh, no_accesses, no_clock}
+use Rattle.ckrt_look_clocks.specs.Detection.{Watched, no_accesses, no_clock}
+use Rattle.ckrt_look_clocks.specs.Within.{Detected, fresh_within, is_full, noted_all}
+use Rattle.ckrt_look_clocks.proofs.WithinLemmas.{nothing_left_out}
 use Rattle.ckrt_look_races.specs.Holders.{HOLDERS}
 use Rattle.ckrt_look_races.specs.Recorded.{words_of}
 use Rattle.ckrt_look_races.specs.Steps.{of_event, of_events}
@@ -63,23 +65,24 @@ gone_further a b c first second = record { harts = second.harts ∙ first.harts;
 
 module _ (p : Plan) where
   -- a run that begins
-  pub seen_first : (s : State) (w : Watched) → w ≡ fresh HOLDERS (words_of s) → HasSeen p s nothing_made s w
-  seen_first s w is = record {
+  pub seen_first : (s : State) (d : Detected) (slots : ℕ) → d ≡ fresh_within HOLDERS (words_of s) slots → HasSeen p s nothing_made s d
+  seen_first s d slots is = record {
     events = [];
     scheduled = tt;
     accepted = tt;
     point = refl;
     folded = refl;
     count = refl;
-    watched = is;
+    slots = slots;
+    noted = is;
   }
 
   -- one event on
-  pub seen_next : (start : State) (m : Made) (s : State) (e : Event) (w : Watched) → HasSeen p start m s w → next p m s.tables ≡ Submit e → IsAccepted e s → HasSeen p start (made_with p (runner_of e s.tables) (step e s).answer m) (step e s).state (behind_all (of_event m.events e s) w)
+  pub seen_next : (start : State) (m : Made) (s : State) (e : Event) (w : Detected) → HasSeen p start m s w → next p m s.tables ≡ Submit e → IsAccepted e s → HasSeen p start (made_with p (runner_of e s.tables) (step e s).answer m) (step e s).state (noted_all (of_event m.events e s) w)
   seen_next start m s e w h n a =
       let es = h.events in
-      let f = fresh HOLDERS (words_of start) in
-      let before = behind_all (of_events 0 es start) f in
+      let f = fresh_within HOLDERS (words_of start) h.slots in
+      let before = noted_all (of_events 0 es start) f in
       let count : m.events ≡ 0 + length es = omega (arith, h.count) in
       record {
         events = es ++ e ∷ [];
@@ -88,15 +91,16 @@ module _ (p : Plan) where
         point = ap (λ (x : Point). on p e x) h.point ∙ sym (behind_on p es e (beginning start));
         folded = ap (λ (t : State). (step e t).state) h.folded ∙ sym (state_on es e start);
         count = counted p (runner_of e s.tables) (step e s).answer m ∙ ap (λ k. k + 1) h.count ∙ sym (one_longer es e);
-        watched = ap (λ (v : Watched). behind_all (of_event m.events e s) v) h.watched
-            ∙ ap (λ k. behind_all (of_event k e s) before) count
-            ∙ ap (λ (t : State). behind_all (of_event (0 + length es) e t) before) h.folded
+        slots = h.slots;
+        noted = ap (λ (v : Detected). noted_all (of_event m.events e s) v) h.noted
+            ∙ ap (λ k. noted_all (of_event k e s) before) count
+            ∙ ap (λ (t : State). noted_all (of_event (0 + length es) e t) before) h.folded
             ∙ sym (behind_both (of_events 0 es start) (of_event (0 + length es) e (fold es start).state) f)
-            ∙ ap (λ os. behind_all os f) (sym (events_on 0 es e start));
+            ∙ ap (λ os. noted_all os f) (sym (events_on 0 es e start));
       }
 
   -- the same of what the code has at hand
-  pub seen_on : (start : State) (m m' : Made) (s s' : State) (e : Event) (who : Option ℕ) (answer : Answer) (out : List ℕ) (w w' : Watched) → who ≡ runner_of e s.tables → m' ≡ made_with p who answer m → (let a : After = record { state = s'; answer = answer; output = out } in a) ≡ step e s → next p m s.tables ≡ Submit e → IsAccepted e s → w' ≡ behind_all (of_event m.events e s) w → HasSeen p start m s w → HasSeen p start m' s' w'
+  pub seen_on : (start : State) (m m' : Made) (s s' : State) (e : Event) (who : Option ℕ) (answer : Answer) (out : List ℕ) (w w' : Detected) → who ≡ runner_of e s.tables → m' ≡ made_with p who answer m → (let a : After = record { state = s'; answer = answer; output = out } in a) ≡ step e s → next p m s.tables ≡ Submit e → IsAccepted e s → w' ≡ noted_all (of_event m.events e s) w → HasSeen p start m s w → HasSeen p start m' s' w'
   seen_on start m m' s s' e who answer out w w' is f r n a noted h =
       let answers : answer ≡ (step e s).answer = ap (λ (a : After). a.answer) r in
       let states : s' ≡ (step e s).state = ap (λ (a : After). a.state) r in
@@ -104,19 +108,20 @@ module _ (p : Plan) where
       rw (made, states, noted) (seen_next start m s e w h n a)
 
   -- a run that has come to its end
-  pub sees : (start : State) (m : Made) (s : State) (w : Watched) (ending : ScheduleEnd) → HasSeen p start m s w → next p m s.tables ≡ End ending → Sees p start w
+  pub sees : (start : State) (m : Made) (s : State) (w : Detected) (ending : ScheduleEnd) → HasSeen p start m s w → next p m s.tables ≡ End ending → Sees p start w
   sees start m s w ending h n =
       let es = h.events in
-      let f = fresh HOLDERS (words_of start) in
+      let f = fresh_within HOLDERS (words_of start) h.slots in
       record {
-        found = record {
+        found = λ left. record {
           events = es;
           ending = ending;
           scheduled = h.scheduled;
           ended = subst (λ (x : Point). next_at p x ≡ End ending) h.point n;
           accepted = h.accepted;
-          is_found = ap (λ (v : Watched). v.found) h.watched;
+          is_found = ap (λ (v : Detected). v.watched.found) h.noted
+              ∙ ap (λ (v : Watched). v.found) (nothing_left_out HOLDERS (words_of start) h.slots (of_events 0 es start) (sym (ap is_full h.noted) ∙ left));
         };
-        holders = ap (λ (v : Watched). length v.clocks) h.watched ∙ same_holders (of_events 0 es start) f ∙ length-replicate HOLDERS no_clock;
-        words = ap (λ (v : Watched). length v.shadow) h.watched ∙ same_words (of_events 0 es start) f ∙ length-replicate (words_of start) no_accesses;
+        holders = ap (λ (v : Detected). length v.watched.clocks) h.noted ∙ same_holders (of_events 0 es start) f ∙ length-replicate HOLDERS no_clock;
+        words = ap (λ (v : Detected). length v.watched.shadow) h.noted ∙ same_words (of_events 0 es start) f ∙ length-replicate (words_of start) no_accesses;
       }

@@ -1,5 +1,5 @@
 -- The races of a seed's run: those of the events that its schedule has, each accepted at its turn, from the beginning of the program.
-use Rattle.std.specs.Prelude.{◌≡◌, ◌≤◌, ℕ, zero, suc, ◌+◌, ◌-◌, List, length}
+use Rattle.std.specs.Prelude.{◌≡◌, ◌≤◌, ℕ, zero, suc, ◌+◌, ◌-◌, false, List, length}
 use Rattle.std.specs.List.{AllByRecursion}
 use Rattle.ckrt_events.specs.declared.event.Event.{Event}
 use Rattle.ckrt_calls.specs.WellFormed.{IsWellFormed}
@@ -8,8 +8,9 @@ use Rattle.ckrt_machine.specs.Events.{AllAccepted, Machine, fold, memory_in}
 use Rattle.ckrt_machine.specs.Steps.{State}
 use Rattle.ckrt_schedule.specs.declared.next.Next.TheVariants.{End}
 use Rattle.ckrt_schedule.specs.declared.next.ScheduleEnd.{ScheduleEnd}
-use Rattle.ckrt_look_clocks.specs.Detection.{Found, Watched, behind_all, fresh}
+use Rattle.ckrt_look_clocks.specs.Detection.{Found}
 use Rattle.ckrt_look_clocks.specs.Laws.{IsRaceOf}
+use Rattle.ckrt_look_clocks.specs.Within.{Detected, fresh_within, is_full, noted_all}
 use Rattle.ckrt_look_races.specs.Holders.{HOLDERS}
 use Rattle.ckrt_look_races.specs.Laws.{history_of}
 use Rattle.ckrt_look_races.specs.Recorded.{found_by, words_of}
@@ -75,20 +76,21 @@ pub record IsSeedNoted (h : Hunted) (seed : ℕ) (old new : Tally) : Type 0 wher
 -- THE WALK of a run, by two machines side by side
 
 -- so far it has come, and the detector has noted the operations of its events
-pub record HasSeen (p : Plan) (start : State) (m : Made) (s : State) (w : Watched) : Type 0 where
+pub record HasSeen (p : Plan) (start : State) (m : Made) (s : State) (d : Detected) : Type 0 where
   pub events : List Event
   pub scheduled : AreScheduled p events (beginning start)
   pub accepted : AllAccepted events start
   pub point : (let x : Point = record { made = m; state = s } in x) ≡ behind p events (beginning start)
   pub folded : s ≡ (fold events start).state
   pub count : m.events ≡ length events
-  pub watched : w ≡ behind_all (of_events 0 events start) (fresh HOLDERS (words_of start))
+  pub slots : ℕ
+  pub noted : d ≡ noted_all (of_events 0 events start) (fresh_within HOLDERS (words_of start) slots)
 
--- it has come to its end
-pub record Sees (p : Plan) (start : State) (w : Watched) : Type 0 where
-  pub found : HasRaces p start w.found
-  pub holders : length w.clocks ≡ HOLDERS
-  pub words : length w.shadow ≡ words_of start
+-- it has come to its end, and its races are known unless the room was used up
+pub record Sees (p : Plan) (start : State) (d : Detected) : Type 0 where
+  pub found : is_full d ≡ false → HasRaces p start d.watched.found
+  pub holders : length d.watched.clocks ≡ HOLDERS
+  pub words : length d.watched.shadow ≡ words_of start
 
 -- both machines are in one state
 pub record AreAlike (m : Made) (whole stepped : State) : Type 0 where
@@ -96,10 +98,11 @@ pub record AreAlike (m : Made) (whole stepped : State) : Type 0 where
   pub turns : m.turns ≤ m.events
   pub harts : 1 ≤ whole.tables.threads.hart_count
 
-pub record HasBegun (whole stepped : State) (w : Watched) : Type 0 where
+pub record HasBegun (whole stepped : State) (d : Detected) : Type 0 where
   pub same : stepped ≡ whole
   pub harts : 1 ≤ whole.tables.threads.hart_count
-  pub watched : w ≡ fresh HOLDERS (words_of whole)
+  pub slots : ℕ
+  pub noted : d ≡ fresh_within HOLDERS (words_of whole) slots
 
 -- a machine went on: it has as many harts, and what changed of its memory is marked
 pub record HasGoneOn (old new : Machine) : Type 0 where
@@ -119,11 +122,11 @@ pub record IsPutAside (s : State) (b : Beginning) : Type 0 where
   pub some : 1 ≤ s.tables.threads.hart_count
 
 -- all that looks at runs is ready for the next one
-pub record IsReady (h : Hunted) (first second : Beginning) (w : Watched) : Type 0 where
+pub record IsReady (h : Hunted) (first second : Beginning) (d : Detected) : Type 0 where
   pub whole : IsBegun h.start first
   pub stepped : IsBegun h.start second
-  pub holders : length w.clocks ≡ HOLDERS
-  pub words : length w.shadow ≡ words_of h.start
+  pub holders : length d.watched.clocks ≡ HOLDERS
+  pub words : length d.watched.shadow ≡ words_of h.start
 
 -- LAWS
 

@@ -1,13 +1,16 @@
 //! One seed after another, each looked at for races.
-ghost use Rattle.std.specs.Prelude.{◌≡◌, ◌≤◌, ◌*◌, ◌+◌, ◌-◌, ◌<◌, ◌↔◌, length, IfOk, IsErrOf};
+ghost use Rattle.std.specs.Prelude.{◌≡◌, ◌≤◌, ◌*◌, ◌+◌, ◌-◌, ◌<◌, ◌↔◌, not, length, IfOk, IfSome, IsErrOf};
+ghost use Rattle.std.specs.Bool.{OnTrue};
 ghost use Rattle.ckrt_memory.specs.declared.MemoryError.TheVariants.{ImageTooLong};
+ghost use Rattle.ckrt_look_clocks.specs.Within.{is_full};
+ghost use Rattle.ckrt_hunt_races.specs.Races.{raced_in, with_run};
 
 use crate::beginning::Beginning;
 use crate::tally::RaceTally;
 use crate::walk::watch_run;
 use ckrt_hunt_schedules::{Hunt, HuntOnlooker, Input, Seeds, Shape, Tally, is_over};
 use ckrt_look_clocks::Detector;
-use ckrt_look_races::detector_for;
+use ckrt_look_races::{ROOM, detector_for};
 use ckrt_memory::MemoryError;
 use std::alloc::Global;
 use std::marker::Model;
@@ -34,11 +37,23 @@ impl<'i> Model for RaceHunt<'i> {
     ghost invariant = { λ r. IsReady r.hunt r.whole r.stepped r.detector };
 }
 
+/// Notes the races of a seed's run, unless the room of the shadow was used up by it.
+fn note_whole(races: &mut RaceTally, seed: u64, detector: &Detector) -> bool
+    ensures whole { result ≡ not (is_full detector.now) }
+    ensures noted { OnTrue result
+        (raced_in races.new ≡ with_run seed detector.now.watched.found (raced_in races.old)) }
+{
+    if detector.is_full() {
+        return false;
+    }
+    races.note(seed, detector);
+    true
+}
+
 impl<'i> RaceHunt<'i> {
     ghost use Rattle.ckrt_hunt_schedules.specs.Seeds.{IsBeginning, IsEndedBy};
     ghost use Rattle.ckrt_hunt_schedules.specs.Tallies.{AreNoted, hunted_of};
     ghost use Rattle.ckrt_hunt_races.specs.RaceRuns.{AreLookedAt, IsLookedAt, IsSeedNoted};
-    ghost use Rattle.ckrt_hunt_races.specs.Races.{raced_in};
 
     /// The hunt of a program that begins with this image, and is given this to read.
     ///
@@ -57,7 +72,7 @@ impl<'i> RaceHunt<'i> {
         let hunt = Hunt::new(alloc, image, shape, input)?;
         let whole = Beginning::new(alloc, image, shape)?;
         let stepped = Beginning::new(alloc, image, shape)?;
-        let detector = detector_for(alloc, &whole.machine)?;
+        let detector = detector_for(alloc, &whole.machine, ROOM)?;
         Ok(RaceHunt {
             hunt,
             whole,
@@ -66,9 +81,10 @@ impl<'i> RaceHunt<'i> {
         })
     }
 
-    /// Notes the races of a seed's run. It takes no memory, and the hunt is as it was.
-    fn look_at(&mut self, seed: u64, races: &mut RaceTally)
-        ensures looked_at { IsLookedAt self.old seed (raced_in races.old) (raced_in races.new) }
+    /// Notes the races of a seed's run, if the room of the shadow was enough for it. It takes no memory, and the hunt is as it was.
+    fn look_at(&mut self, seed: u64, races: &mut RaceTally) -> bool
+        ensures looked_at { OnTrue result
+            (IsLookedAt self.old seed (raced_in races.old) (raced_in races.new)) }
         ensures same { self.new ≡ self.old }
     {
         self.detector.clear();
@@ -82,22 +98,24 @@ impl<'i> RaceHunt<'i> {
         );
         self.whole.begin_again();
         self.stepped.begin_again();
-        races.note(seed, &self.detector);
+        note_whole(races, seed, &self.detector)
     }
 
-    /// Notes what a seed comes to, and the races of its run. It takes no memory, and the hunt is as it was.
-    pub fn note_seed(&mut self, seed: u64, tally: &mut Tally, races: &mut RaceTally)
+    /// Notes what a seed comes to, and the races of its run, if the room of the shadow was enough for it. It takes no memory, and the hunt
+    /// is as it was.
+    pub fn note_seed(&mut self, seed: u64, tally: &mut Tally, races: &mut RaceTally) -> bool
         ensures noted { IsSeedNoted self.old seed tally.old tally.new }
-        ensures looked_at { IsLookedAt self.old seed (raced_in races.old) (raced_in races.new) }
+        ensures looked_at { OnTrue result
+            (IsLookedAt self.old seed (raced_in races.old) (raced_in races.new)) }
         ensures same { self.new ≡ self.old }
     {
         tally.note(seed, self.hunt.run_seed(seed));
-        self.look_at(seed, races);
+        self.look_at(seed, races)
     }
 
     /// Notes what the seeds of a range come to, in turn, and the races of their runs. An onlooker is told of each but the last one. Where
     /// the hunt may end early, it ends behind the first seed after which the onlooker has no time. The answer is the range that was
-    /// noted. It takes no memory, and the hunt is as it was.
+    /// noted; nothing where the room of the shadow was used up by a run. It takes no memory, and the hunt is as it was.
     pub fn note_seeds<O: HuntOnlooker>(
         &mut self,
         tally: &mut Tally,
@@ -105,25 +123,31 @@ impl<'i> RaceHunt<'i> {
         seeds: Seeds,
         may_end: bool,
         onlooker: &mut O,
-    ) -> Seeds
-        ensures begins { IsBeginning seeds may_end result }
-        ensures ended { IsEndedBy O.Answers seeds may_end result }
-        ensures noted { AreNoted self.old seeds.first (result.last - seeds.first + 1)
-            tally.old tally.new }
-        ensures looked_at { AreLookedAt self.old seeds.first (result.last - seeds.first + 1)
-            (raced_in races.old) (raced_in races.new) }
+    ) -> Option<Seeds>
+        ensures begins { IfSome result (IsBeginning seeds may_end) }
+        ensures ended { IfSome result (IsEndedBy O.Answers seeds may_end) }
+        ensures noted { IfSome result (λ run.
+            AreNoted self.old seeds.first (run.last - seeds.first + 1) tally.old tally.new) }
+        ensures looked_at { IfSome result (λ run.
+            AreLookedAt self.old seeds.first (run.last - seeds.first + 1)
+            (raced_in races.old) (raced_in races.new)) }
         ensures same { self.new ≡ self.old }
     {
         for seed in seeds.first..seeds.last {
-            self.note_seed(seed, tally, races);
+            if !self.note_seed(seed, tally, races) {
+                return None;
+            }
             if is_over(onlooker, seed, tally, may_end) {
-                return Seeds {
+                return Some(Seeds {
                     first: seeds.first,
                     last: seed,
-                };
+                });
             }
         }
-        self.note_seed(seeds.last, tally, races);
-        seeds
+        if self.note_seed(seeds.last, tally, races) {
+            Some(seeds)
+        } else {
+            None
+        }
     }
 }

@@ -97,7 +97,7 @@ fn lacks_some(rows: &[RaceRow], pairs: &[Pair]) -> bool
 
 /// Whether a run had a race that no row tells.
 pub(crate) fn has_others(rows: &[RaceRow], detector: &Detector) -> bool
-    ensures { result ≡ has_others rows.now detector.now.found }
+    ensures { result ≡ has_others rows.now detector.now.watched.found }
 {
     0 < detector.others() || lacks_some(rows, detector.pairs())
 }

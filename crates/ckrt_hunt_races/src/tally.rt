@@ -50,7 +50,7 @@ impl RaceTally {
 
     /// One more run: that of a seed had what the detector found. It takes no memory.
     pub fn note(&mut self, seed: u64, detector: &Detector)
-        ensures { raced_in self.new ≡ with_run seed detector.now.found (raced_in self.old) }
+        ensures { raced_in self.new ≡ with_run seed detector.now.watched.found (raced_in self.old) }
     {
         note_pairs(&mut self.rows, seed, detector.pairs());
         if has_others(self.rows.as_slice(), detector) {

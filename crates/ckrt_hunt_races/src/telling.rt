@@ -65,7 +65,7 @@ fn nothing_counted(alloc: Global) -> Result<(Tally, Outcomes, RaceTally), AllocE
     Ok((tally, outcomes, races))
 }
 
-/// Runs the seeds of a program, and looks at each run for races.
+/// Runs the seeds of a program, and looks at each run for races. It fails where the room of the shadow is used up by a run.
 fn count_runs<O: HuntOnlooker>(
     alloc: Global,
     hunt: &mut RaceHunt<'_>,
@@ -77,7 +77,10 @@ fn count_runs<O: HuntOnlooker>(
         (λ told. IsEndedBy O.Answers asked.now.seeds asked.now.may_end told.done.seeds) }
 {
     let (mut tally, mut outcomes, mut races) = nothing_counted(alloc)?;
-    let seeds = hunt.note_seeds(&mut tally, &mut races, asked.seeds, asked.may_end, onlooker);
+    let run = hunt.note_seeds(&mut tally, &mut races, asked.seeds, asked.may_end, onlooker);
+    let Some(seeds) = run else {
+        return Err(AllocError);
+    };
     outcomes.take(&mut tally);
     onlooker.end_hunt(seeds, &outcomes);
     Ok(HuntTold {
@@ -199,7 +202,7 @@ fn hunt_and_tell_races<O: HuntOnlooker, W: Write>(
 /// # Errors
 ///
 /// `ImageTooLong` where the image has more bytes than the pages from page 1 on, and `OutOfMemory` where the allocator
-/// refuses the room, before anything is written; `Write` where the writer failed.
+/// refuses the room or that of the shadow is used up by a run, before anything is written; `Write` where the writer failed.
 pub fn hunt_as_asked<O: HuntOnlooker, W: Write>(
     alloc: Global,
     image: &[u8],

@@ -1,7 +1,6 @@
 //! A run of a seed, made by one machine, and step by step by another one.
 ghost use Rattle.std.specs.Prelude.{◌≡◌, ◌≤◌, ◌+◌};
 ghost use Rattle.ckrt_machine.specs.Steps.{State};
-ghost use Rattle.ckrt_look_clocks.specs.Detection.{Watched};
 ghost use Rattle.ckrt_schedule.specs.declared.next.Next.TheVariants.{Submit};
 ghost use Rattle.ckrt_hunt_schedules.specs.Turns.{IsFit, next};
 ghost use Rattle.ckrt_hunt_races.specs.RaceRuns.{AreAlike, HasBegun, HasGoneOn, HasSeen, Sees};

@@ -6,4 +6,6 @@ pub mod RaceLemmas
 pub mod KeptLemmas
 pub mod ChainLemmas
 pub mod BehindLemmas
-mod PartLemmas
+pub mod PartLemmas
+pub mod WithinLemmas
+pub mod SufficeLemmas

@@ -1,4 +1,5 @@
 pub mod Histories
 pub mod Detection
 pub mod Parts
+pub mod Within
 pub mod Laws

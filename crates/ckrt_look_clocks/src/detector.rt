@@ -1,14 +1,13 @@
 //! Operation by operation.
-ghost use Rattle.std.specs.Prelude.{◌≡◌, ◌≤◌, ◌<◌, ◌+◌, length, replicate, slice_set, IfOk};
-ghost use Rattle.ckrt_look_clocks.specs.Detection.{compared, compared_all, compared_stores, found_in, few_words, no_accesses, no_clock, given_with, renewed};
-ghost use Rattle.ckrt_look_clocks.specs.Parts.{AreTouched};
+ghost use Rattle.std.specs.Prelude.{◌≡◌, length, replicate, IfOk};
+ghost use Rattle.ckrt_look_clocks.specs.declared.operation.Operation.TheVariants as operation;
+ghost use Rattle.ckrt_look_clocks.specs.Detection.{no_clock};
 
-use crate::clock::{Clock, knows, no_clock, pass};
+use crate::clock::{Clock, no_clock, pass};
 use crate::found::Findings;
-use crate::operation::{Access, Block, Operation, conflict};
+use crate::operation::{Access, Block, Operation, Place};
 use crate::pair::Pair;
-use crate::parts::{clear_all, touch, untouched};
-use crate::shadow::{Cell, given_with, is_repeated, keep, no_accesses};
+use crate::parts::Shadow;
 use std::alloc::{AllocError, Global};
 use std::marker::Model;
 
@@ -16,25 +15,17 @@ use std::marker::Model;
 #[derive(Drop)]
 pub struct Detector {
     clocks: Vec<Clock>,
-    shadow: Vec<Cell>,
-    /// By part of the shadow: whether something was done to one of its words.
-    touched: Vec<bool>,
+    shadow: Shadow,
     found: Findings,
 }
 
 impl Model for Detector {
-    ghost use Rattle.ckrt_look_clocks.specs.Detection.{Watched, found_in};
-    ghost use Rattle.ckrt_look_clocks.specs.Parts.{AreTouched};
+    ghost use Rattle.ckrt_look_clocks.specs.Detection.{found_in};
+    ghost use Rattle.ckrt_look_clocks.specs.Within.{Detected, detected_by};
 
-    ghost Value = { Watched };
+    ghost Value = { Detected };
 
-    ghost view = { λ d. record {
-      clocks = d.clocks.items;
-      shadow = d.shadow.items;
-      found = found_in d.found;
-    } };
-
-    ghost invariant = { λ d. AreTouched d.touched.items d.shadow.items };
+    ghost view = { λ d. detected_by d.clocks.items d.shadow (found_in d.found) };
 }
 
 /// Holders that have seen nothing.
@@ -50,19 +41,6 @@ fn fresh_clocks(alloc: Global, holders: usize) -> Result<Vec<Clock>, AllocError>
     Ok(clocks)
 }
 
-/// Words that nothing accessed.
-fn fresh_shadow(alloc: Global, words: usize) -> Result<Vec<Cell>, AllocError>
-    ensures { IfOk result (λ shadow. shadow.items ≡ replicate words no_accesses) }
-{
-    let mut shadow = Vec::with_capacity(alloc, words)?;
-    for _ in 0..words {
-        if shadow.push(no_accesses()).is_err() {
-            return Err(AllocError);
-        }
-    }
-    Ok(shadow)
-}
-
 /// Holders have seen nothing any more.
 fn clear_clocks(clocks: &mut Vec<Clock>)
     ensures { clocks.new.items ≡ replicate (length clocks.old.items) no_clock }
@@ -70,173 +48,89 @@ fn clear_clocks(clocks: &mut Vec<Clock>)
     clocks.as_mut_slice().fill(no_clock());
 }
 
-/// An access is compared with one that was kept.
-fn compare(
-    block: &Option<Block>,
-    clocks: &[Clock],
-    access: &Access,
-    kept: &Option<Access>,
-    found: &mut Findings,
-)
-    ensures { found_in found.new
-        ≡ compared block.now clocks.now access.now kept.now (found_in found.old) }
-{
-    if let Some(kept) = kept {
-        if conflict(kept, access) && !knows(clocks, access.thread, kept) {
-            found.note(block, kept, access);
-        }
-    }
-}
-
-/// An access is compared with the last stores to the bytes of its word, with each once.
-fn compare_stores(
-    block: &Option<Block>,
-    clocks: &[Clock],
-    access: &Access,
-    stores: &[Option<Access>; 4],
-    found: &mut Findings,
-)
-    ensures { found_in found.new
-        ≡ compared_stores (length stores.now) block.now clocks.now access.now stores.now
-        (found_in found.old) }
-{
-    for byte in 0..4 {
-        if !is_repeated(stores, byte) {
-            compare(block, clocks, access, &stores[byte], found);
-        }
-    }
-}
-
-/// An access is compared with those that were kept of its word.
-fn compare_all(clocks: &[Clock], access: &Access, cell: &Cell, found: &mut Findings)
-    ensures { found_in found.new
-        ≡ compared_all clocks.now access.now cell.now (found_in found.old) }
-{
-    compare_stores(&cell.block, clocks, access, &cell.stores, found);
-    compare(&cell.block, clocks, access, &cell.load, found);
-    compare(&cell.block, clocks, access, &cell.other, found);
-}
-
-/// How many words of memory that is given anew a shadow has.
-fn few_words(shadow: &[Cell], block: &Block) -> usize
-    ensures { result ≡ few_words block.now shadow.now }
-{
-    let from = block.first as usize;
-    let all = shadow.len();
-    if all <= from {
-        return 0;
-    }
-    let left = all - from;
-    let count = block.count as usize;
-    if count < left { count } else { left }
-}
-
-/// Nothing accessed a word of memory any more that is given anew.
-#[tactic(auto, using(crate::proofs::PartLemmas::touched_at))]
-fn renew_word(shadow: &mut Vec<Cell>, touched: &mut Vec<bool>, word: usize, block: &Block)
-    requires word { word < length shadow.old.items }
-    requires touched { AreTouched touched.old.items shadow.old.items }
-    ensures shadow { shadow.new.items
-        ≡ slice_set shadow.old.items word (given_with block.now) }
-    ensures touched { AreTouched touched.new.items shadow.new.items }
-{
-    shadow[word] = given_with(block);
-    touch(touched, word);
-}
-
-/// Nothing accessed the first so many words of memory any more that is given anew.
-fn renew(shadow: &mut Vec<Cell>, touched: &mut Vec<bool>, block: &Block, count: usize)
-    requires inside { block.now.first + count ≤ length shadow.old.items }
-    requires touched { AreTouched touched.old.items shadow.old.items }
-    ensures shadow { shadow.new.items ≡ renewed count block.now shadow.old.items }
-    ensures touched { AreTouched touched.new.items shadow.new.items }
-{
-    let first = block.first as usize;
-    for done in 0..count {
-        renew_word(shadow, touched, first + done, block);
-    }
-}
-
 impl Detector {
-    ghost use Rattle.ckrt_look_clocks.specs.Detection.{access_at, behind, fresh, given_anew, passed, word_of};
-    ghost use Rattle.std.specs.Prelude.{slice_get};
+    ghost use Rattle.ckrt_look_clocks.specs.Within.{noted_one, fresh_within, is_full};
 
     /// Nothing was done yet, by so many holders, of which the first 65 are threads, to a memory of so many words. It takes 1,040
-    /// bytes a holder and 280 bytes a word.
-    pub fn new(alloc: Global, holders: usize, words: usize) -> Result<Detector, AllocError>
-        ensures { IfOk result (λ detector. detector ≡ fresh holders words) }
+    /// bytes a holder, 16 bytes for each part of 1,024 words, and a room of so many slots, of [`PART_BYTES`](crate::PART_BYTES) each.
+    pub fn new(
+        alloc: Global,
+        holders: usize,
+        words: usize,
+        slots: usize,
+    ) -> Result<Detector, AllocError>
+        ensures { IfOk result (λ detector. detector ≡ fresh_within holders words slots) }
     {
         Ok(Detector {
             clocks: fresh_clocks(alloc, holders)?,
-            shadow: fresh_shadow(alloc, words)?,
-            touched: untouched(alloc, words)?,
+            shadow: Shadow::new(alloc, words, slots)?,
             found: Findings::new(alloc)?,
         })
     }
 
-    /// Nothing was done any more, as when it was new. It takes no memory, and looks at the words of those parts alone to which something
-    /// was done.
+    /// Nothing was done any more, as when it was new. It takes no memory, gives all slots back, and looks at no word.
     pub fn clear(&mut self)
-        ensures { self.new ≡ fresh (length self.old.clocks) (length self.old.shadow) }
+        ensures { self.new
+            ≡ fresh_within (length self.old.watched.clocks) (length self.old.watched.shadow)
+            self.old.slots.count }
     {
         clear_clocks(&mut self.clocks);
-        clear_all(&mut self.shadow, &mut self.touched);
+        self.shadow.clear();
         self.found.clear();
+    }
+
+    /// Whether the room is used up: a part more was touched than there are slots. Then nothing is noted any more.
+    pub fn is_full(&self) -> bool
+        ensures { result ≡ is_full self.now }
+    {
+        self.shadow.is_full()
     }
 
     /// A thread loads or stores.
     pub fn access(&mut self, access: &Access)
-        ensures { self.new
-            ≡ access_at access.now (slice_get self.old.shadow (word_of access.now)) self.old }
+        ensures { self.new ≡ noted_one (operation.Access access.now) self.old }
     {
-        let word = (access.address / 4) as usize;
-        if word >= self.shadow.len() {
-            return;
-        }
         let clocks = self.clocks.as_slice();
-        compare_all(clocks, access, &self.shadow[word], &mut self.found);
-        keep(&mut self.shadow[word], access);
-        touch(&mut self.touched, word);
+        self.shadow.access(clocks, access, &mut self.found);
+    }
+
+    /// What one holder has seen at a place another has seen from there on.
+    fn pass(&mut self, from: u16, to: u16, place: Place)
+        ensures { self.new ≡ noted_one (operation.Pass from to place) self.old }
+    {
+        if !self.shadow.is_full() {
+            pass(&mut self.clocks, usize::from(from), usize::from(to), place);
+        }
     }
 
     /// Memory is given anew: what was done to it before is compared with nothing. Words that the memory doesn't have are passed over.
     pub fn renew(&mut self, block: &Block)
-        ensures { self.new ≡ given_anew block.now self.old }
+        ensures { self.new ≡ noted_one (operation.Renew block.now) self.old }
     {
-        let few = few_words(self.shadow.as_slice(), block);
-        if few > 0 {
-            renew(&mut self.shadow, &mut self.touched, block, few);
-        }
+        self.shadow.renew(block);
     }
 
     /// The next operation.
     pub fn note(&mut self, operation: &Operation)
-        ensures { self.new ≡ behind operation.now self.old }
+        ensures { self.new ≡ noted_one operation.now self.old }
     {
         match operation {
             Operation::Access(access) => self.access(access),
-            Operation::Pass(from, to, place) => {
-                pass(
-                    &mut self.clocks,
-                    usize::from(*from),
-                    usize::from(*to),
-                    *place,
-                );
-            }
+            Operation::Pass(from, to, place) => self.pass(*from, *to, *place),
             Operation::Renew(block) => self.renew(block),
         }
     }
 
     /// The pairs of places whose accesses raced, in the order in which they were found.
     pub fn pairs(&self) -> &[Pair]
-        ensures { result.now ≡ self.now.found.pairs }
+        ensures { result.now ≡ self.now.watched.found.pairs }
     {
         self.found.pairs.as_slice()
     }
 
     /// How often accesses raced for whose places no row was left.
     pub fn others(&self) -> u64
-        ensures { result ≡ self.now.found.others }
+        ensures { result ≡ self.now.watched.found.others }
     {
         self.found.others
     }

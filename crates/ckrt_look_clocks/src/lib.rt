@@ -1,10 +1,12 @@
 //! Data races: which accesses of threads to one memory are unordered, told operation by operation.
 //!
 //! A [`Detector`] is given the operations of a run in their order: loads and stores, and what is passed from one holder to another,
-//! as a lock passes on to the thread that takes it what was seen by those that gave it up. It takes no memory once it is made.
+//! as a lock passes on to the thread that takes it what was seen by those that gave it up. It takes no memory once it is made: a part
+//! of the shadow that is touched first takes a slot of a room of so many, and where none is left the detector says so.
 #![tactic(auto)]
 
 mod clock;
+mod comparing;
 mod detector;
 mod found;
 mod laws;
@@ -16,8 +18,10 @@ mod shadow;
 pub use clock::Clock;
 pub use detector::Detector;
 pub use laws::{
-    clocks_are_exact, kept_races_are_found, only_races_are_found, seen_behind_seen, seen_by_chains,
+    clocks_are_exact, kept_races_are_found, nothing_is_left_out, only_races_are_found,
+    room_for_all_suffices, seen_behind_seen, seen_by_chains,
 };
 pub use operation::{Access, Block, Operation, Place, THREADS};
 pub use pair::{PAIRS, Pair};
+pub use parts::PART_BYTES;
 pub use shadow::Cell;

@@ -1,5 +1,5 @@
 -- The races of recorded events, as they are written.
-use Rattle.std.specs.Prelude.{◌≡◌, ℕ, ◌+◌, ◌/◌, List, length}
+use Rattle.std.specs.Prelude.{◌≡◌, ℕ, ◌+◌, ◌/◌, min, List, length}
 use Rattle.ckrt_events.specs.declared.event.Event.{Event}
 use Rattle.ckrt_machine.specs.Steps.{State}
 use Rattle.ckrt_look_recording.specs.declared.rule.Rule.{Rule}
@@ -12,6 +12,10 @@ use Rattle.ckrt_look_races.specs.Texts.{found_text}
 -- how many words of memory a shadow has: from address 0 on
 abbrev pub words_of : State → ℕ
 words_of s = 1024 + length s.bytes / 4
+
+-- how many slots a room of so many bytes has: no more than there are parts of so many words
+abbrev pub slots_in : (room words : ℕ) → ℕ
+slots_in room words = min (room / 286720) (words / 1024 + 1)
 
 -- what is found by these events, of which the first is behind k others, where all that came before is taken as ordered
 abbrev pub found_by : ℕ → List Event → State → Found

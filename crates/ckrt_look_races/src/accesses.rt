@@ -2,7 +2,7 @@
 ghost use Rattle.std.specs.Prelude.{◌≡◌, ◌<◌, ◌%◌};
 ghost use Rattle.ckrt_machine.specs.Steps.{hart_of};
 ghost use Rattle.ckrt_look_clocks.specs.declared.operation.Operation.TheVariants as operation;
-ghost use Rattle.ckrt_look_clocks.specs.Detection.{behind_all};
+ghost use Rattle.ckrt_look_clocks.specs.Within.{noted_all};
 ghost use Rattle.ckrt_look_recording.specs.Accesses.{fetched};
 ghost use Rattle.ckrt_look_races.specs.Accesses.{access_of, accesses, block_of, place_behind, fence_by, fence_operations, is_renewal, is_thread_fence, is_word_at, load_at, load_operations, load_order, of_instruction, order_by, renewal_by, store_at, store_operations, store_order, told};
 
@@ -108,7 +108,7 @@ fn access_of(step: &Stepping, is_store: bool, is_atomic: bool, address: u32, siz
 /// A plain access is told unless its thread is in a kit.
 fn tell(step: &Stepping, access: &Access, detector: &mut Detector)
     ensures { detector.new
-        ≡ behind_all (told step.now (operation.Access access.now)) detector.old }
+        ≡ noted_all (told step.now (operation.Access access.now)) detector.old }
 {
     if !step.is_in_kit {
         detector.access(access);
@@ -118,7 +118,7 @@ fn tell(step: &Stepping, access: &Access, detector: &mut Detector)
 /// A load. What was given up to the word its thread takes before one that acquires, and by its next fence behind a relaxed one.
 fn note_load(step: &Stepping, order: Order, address: u32, size: Size, detector: &mut Detector)
     ensures { detector.new
-        ≡ behind_all (load_operations step.now order address size) detector.old }
+        ≡ noted_all (load_operations step.now order address size) detector.old }
 {
     let word = Lock::Word(address);
     match order {
@@ -154,7 +154,7 @@ fn place_behind(place: Place) -> Place
 fn note_store(step: &Stepping, order: Order, address: u32, size: Size, detector: &mut Detector)
     requires { step.now.place.step < 4294967295 }
     ensures { detector.new
-        ≡ behind_all (store_operations step.now order address size) detector.old }
+        ≡ noted_all (store_operations step.now order address size) detector.old }
 {
     if let Order::Plain = order {
         return tell(step, &access_of(step, true, false, address, size), detector);
@@ -172,7 +172,7 @@ fn note_store(step: &Stepping, order: Order, address: u32, size: Size, detector:
 fn watch_load(memory: &Memory, step: &Stepping, address: u32, size: Size, detector: &mut Detector)
     requires { step.now.regs.pc % 4 ≡ 0 }
     ensures { detector.new
-        ≡ behind_all (load_at memory.now.bytes step.now address size) detector.old }
+        ≡ noted_all (load_at memory.now.bytes step.now address size) detector.old }
 {
     if may_access(memory.as_slice(), address, size) {
         note_load(step, load_order(memory, step), address, size, detector);
@@ -184,7 +184,7 @@ fn watch_store(memory: &Memory, step: &Stepping, address: u32, size: Size, detec
     requires aligned { step.now.regs.pc % 4 ≡ 0 }
     requires room { step.now.place.step < 4294967295 }
     ensures { detector.new
-        ≡ behind_all (store_at memory.now.bytes step.now address size) detector.old }
+        ≡ noted_all (store_at memory.now.bytes step.now address size) detector.old }
 {
     if may_access(memory.as_slice(), address, size) {
         note_store(step, store_order(memory, step), address, size, detector);
@@ -200,7 +200,7 @@ fn is_thread_fence(sets: u32) -> bool
 
 /// A fence: its thread takes what its relaxed loads have met, and gives up what its relaxed stores hand on.
 fn watch_fence(step: &Stepping, sets: u32, detector: &mut Detector)
-    ensures { detector.new ≡ behind_all (fence_by step.now sets) detector.old }
+    ensures { detector.new ≡ noted_all (fence_by step.now sets) detector.old }
 {
     if is_thread_fence(sets) {
         let thread = u32::from(step.thread);
@@ -235,7 +235,7 @@ fn block_of(step: &Stepping, address: u32, bytes: u32) -> Block
 fn watch_renewal(step: &Stepping, op: AluOp, rd: u8, rs1: u8, rs2: u8, detector: &mut Detector)
     requires first { rs1 < 32 }
     requires second { rs2 < 32 }
-    ensures { detector.new ≡ behind_all (renewal_by step.now op rd rs1 rs2) detector.old }
+    ensures { detector.new ≡ noted_all (renewal_by step.now op rd rs1 rs2) detector.old }
 {
     if is_renewal(op, rd) {
         detector.renew(&block_of(step, step.regs.get(rs1), step.regs.get(rs2)));
@@ -247,7 +247,7 @@ fn watch_instruction(memory: &Memory, step: &Stepping, detector: &mut Detector)
     requires aligned { step.now.regs.pc % 4 ≡ 0 }
     requires room { step.now.place.step < 4294967295 }
     ensures { detector.new
-        ≡ behind_all (of_instruction memory.now.bytes step.now
+        ≡ noted_all (of_instruction memory.now.bytes step.now
         (fetched memory.now.bytes step.now.regs.pc)) detector.old }
 {
     match fetched(memory.as_slice(), step.regs.pc()) {
@@ -285,7 +285,7 @@ fn watch_instruction(memory: &Memory, step: &Stepping, detector: &mut Detector)
 pub(crate) fn watch_accesses(machine: &Machine, place: Place, hart: u8, detector: &mut Detector)
     requires { place.step < 4294967295 }
     ensures { detector.new
-        ≡ behind_all (accesses place (hart_of machine.now.state.tables hart) machine.now.state)
+        ≡ noted_all (accesses place (hart_of machine.now.state.tables hart) machine.now.state)
         detector.old }
 {
     let threads = &machine.tables().threads;

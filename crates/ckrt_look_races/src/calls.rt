@@ -3,7 +3,7 @@ ghost use Rattle.std.specs.Prelude.{◌≡◌};
 ghost use Rattle.std.specs.List.{flat_map};
 ghost use Rattle.ckrt_registers.specs.Registers.{get};
 ghost use Rattle.ckrt_calls.specs.Table.{call_of};
-ghost use Rattle.ckrt_look_clocks.specs.Detection.{behind_all};
+ghost use Rattle.ckrt_look_clocks.specs.Within.{noted_all};
 ghost use Rattle.ckrt_look_races.specs.Orders.{arrived, at_barrier, begun_wait, created, given_up, given_up_lock, given_up_mutex, is_answered, is_at_barrier, leaves, of_barrier_call, of_call, of_caller, of_cancellation_call, of_condition_call, of_mutex_call, of_rwlock_call, of_thread_call};
 
 use crate::holders::{Lock, ordered, released};
@@ -39,7 +39,7 @@ fn created(caller: &Caller, after: &Tables) -> u32
 
 /// A thread gives up a mutex, which passes nothing on if it is one of a kit.
 fn give_up_mutex(place: Place, thread: ThreadId, address: u32, detector: &mut Detector)
-    ensures { detector.new ≡ behind_all (given_up_mutex place thread address) detector.old }
+    ensures { detector.new ≡ noted_all (given_up_mutex place thread address) detector.old }
 {
     if !is_of_kit(address) {
         detector.note(&released(thread, Lock::Mutex(address), place));
@@ -55,7 +55,7 @@ fn watch_mutex_call(
     detector: &mut Detector,
 )
     ensures { detector.new
-        ≡ behind_all (of_mutex_call place call caller.now after.now) detector.old }
+        ≡ noted_all (of_mutex_call place call caller.now after.now) detector.old }
 {
     let mutex = caller.regs.get(10);
     match call {
@@ -73,7 +73,7 @@ fn watch_mutex_call(
 
 /// Who waits at a condition has given up its mutex.
 fn begin_wait(place: Place, caller: &Caller, after: &Tables, detector: &mut Detector)
-    ensures { detector.new ≡ behind_all (begun_wait place caller.now after.now) detector.old }
+    ensures { detector.new ≡ noted_all (begun_wait place caller.now after.now) detector.old }
 {
     if waits_now(caller.thread, after) {
         give_up_mutex(place, caller.thread, caller.regs.get(11), detector);
@@ -89,7 +89,7 @@ fn watch_condition_call(
     detector: &mut Detector,
 )
     ensures { detector.new
-        ≡ behind_all (of_condition_call place call caller.now after.now) detector.old }
+        ≡ noted_all (of_condition_call place call caller.now after.now) detector.old }
 {
     match call {
         ConditionCall::Wait | ConditionCall::TimedWait => {
@@ -115,7 +115,7 @@ fn is_at_barrier(barrier: u32, wait: &Wait) -> bool
 /// What a thread has done that waits at a barrier is before what the last to come does from here on.
 fn watch_arrival(place: Place, thread: ThreadId, barrier: u32, wait: &Wait, detector: &mut Detector)
     ensures { detector.new
-        ≡ behind_all (arrived place thread barrier wait.now) detector.old }
+        ≡ noted_all (arrived place thread barrier wait.now) detector.old }
 {
     if is_at_barrier(barrier, wait) {
         detector.note(&ordered(u32::from(wait.thread), u32::from(thread), place));
@@ -131,7 +131,7 @@ fn watch_arrivals(
     detector: &mut Detector,
 )
     ensures { detector.new
-        ≡ behind_all (flat_map (arrived place thread barrier) waits.now) detector.old }
+        ≡ noted_all (flat_map (arrived place thread barrier) waits.now) detector.old }
 {
     for wait in waits {
         watch_arrival(place, thread, barrier, wait, detector);
@@ -141,7 +141,7 @@ fn watch_arrivals(
 /// What the last to come has done is before what a thread does that waited there.
 fn watch_leave(place: Place, thread: ThreadId, barrier: u32, wait: &Wait, detector: &mut Detector)
     ensures { detector.new
-        ≡ behind_all (leaves place thread barrier wait.now) detector.old }
+        ≡ noted_all (leaves place thread barrier wait.now) detector.old }
 {
     if is_at_barrier(barrier, wait) {
         detector.note(&ordered(u32::from(thread), u32::from(wait.thread), place));
@@ -157,7 +157,7 @@ fn watch_leaves(
     detector: &mut Detector,
 )
     ensures { detector.new
-        ≡ behind_all (flat_map (leaves place thread barrier) waits.now) detector.old }
+        ≡ noted_all (flat_map (leaves place thread barrier) waits.now) detector.old }
 {
     for wait in waits {
         watch_leave(place, thread, barrier, wait, detector);
@@ -174,7 +174,7 @@ fn watch_barrier(
     detector: &mut Detector,
 )
     ensures { detector.new
-        ≡ behind_all (at_barrier place thread barrier waits.now) detector.old }
+        ≡ noted_all (at_barrier place thread barrier waits.now) detector.old }
 {
     watch_arrivals(place, thread, barrier, waits, detector);
     watch_leaves(place, thread, barrier, waits, detector);
@@ -190,7 +190,7 @@ fn watch_barrier_call(
     detector: &mut Detector,
 )
     ensures { detector.new
-        ≡ behind_all (of_barrier_call place call caller.now waits.now after.now) detector.old }
+        ≡ noted_all (of_barrier_call place call caller.now waits.now after.now) detector.old }
 {
     match call {
         BarrierCall::Wait => {
@@ -222,7 +222,7 @@ fn give_up_lock(
     detector: &mut Detector,
 )
     ensures { detector.new
-        ≡ behind_all (given_up_lock place thread address is_writer) detector.old }
+        ≡ noted_all (given_up_lock place thread address is_writer) detector.old }
 {
     if !is_of_kit(address) {
         detector.note(&released(thread, given_up(is_writer, address), place));
@@ -239,7 +239,7 @@ fn watch_rwlock_call(
     detector: &mut Detector,
 )
     ensures { detector.new
-        ≡ behind_all (of_rwlock_call place call caller.now is_writer after.now) detector.old }
+        ≡ noted_all (of_rwlock_call place call caller.now is_writer after.now) detector.old }
 {
     let lock = caller.regs.get(10);
     match call {
@@ -267,7 +267,7 @@ fn watch_thread_call(
     detector: &mut Detector,
 )
     ensures { detector.new
-        ≡ behind_all (of_thread_call place call caller.now after.now) detector.old }
+        ≡ noted_all (of_thread_call place call caller.now after.now) detector.old }
 {
     if !is_answered(0, caller, after) {
         return;
@@ -289,7 +289,7 @@ fn watch_cancellation_call(
     detector: &mut Detector,
 )
     ensures { detector.new
-        ≡ behind_all (of_cancellation_call place call caller.now after.now) detector.old }
+        ≡ noted_all (of_cancellation_call place call caller.now after.now) detector.old }
 {
     if matches!(call, CancellationCall::Cancel) && is_answered(0, caller, after) {
         let request = Lock::Request(caller.regs.get(10));
@@ -307,7 +307,7 @@ fn watch_call(
     detector: &mut Detector,
 )
     ensures { detector.new
-        ≡ behind_all (of_call place (call_of (get caller.now.regs 17)) caller.now is_writer
+        ≡ noted_all (of_call place (call_of (get caller.now.regs 17)) caller.now is_writer
         waits.now after.now) detector.old }
 {
     match Call::from_number(caller.regs.get(17)) {
@@ -339,7 +339,7 @@ pub(crate) fn watch_caller(
     detector: &mut Detector,
 )
     ensures { detector.new
-        ≡ behind_all (of_caller place caller.now is_writer waits.now after.now) detector.old }
+        ≡ noted_all (of_caller place caller.now is_writer waits.now after.now) detector.old }
 {
     if let Some(caller) = caller {
         watch_call(place, caller, is_writer, waits, after, detector);

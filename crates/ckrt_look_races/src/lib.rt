@@ -23,6 +23,6 @@ mod walk;
 
 pub use holders::Lock;
 pub use laws::{found_is_of_the_history, histories_are_orderly, only_races_are_told};
-pub use recorded::{PAGES_LIMIT, detector_for, write_races};
+pub use recorded::{ROOM, detector_for, write_races};
 pub use texts::write_both;
 pub use walk::watch_event;

@@ -3,7 +3,7 @@ ghost use Rattle.std.specs.Prelude.{◌≡◌, is_some};
 ghost use Rattle.std.specs.List.{find, flat_map};
 ghost use Rattle.ckrt_thread.specs.State.{is_live, thread_of};
 ghost use Rattle.ckrt_thread.specs.Waits.{is_of};
-ghost use Rattle.ckrt_look_clocks.specs.Detection.{behind_all};
+ghost use Rattle.ckrt_look_clocks.specs.Within.{noted_all};
 ghost use Rattle.ckrt_look_races.specs.Orders.{is_cancelled, is_retake, of_acting, of_reason, of_request, of_wait, of_waits, taken_mutex, taken_request, taken_to_read, taken_to_write, waits_now};
 
 use crate::holders::{Lock, acquired, ordered};
@@ -28,7 +28,7 @@ pub(crate) fn take_mutex(
     detector: &mut Detector,
 )
     ensures { detector.new
-        ≡ behind_all (taken_mutex place thread address after.now) detector.old }
+        ≡ noted_all (taken_mutex place thread address after.now) detector.old }
 {
     if after.mutexes.mutex(address).is_owned_by(thread) && !is_of_kit(address) {
         detector.note(&acquired(thread, Lock::Mutex(address), place));
@@ -44,7 +44,7 @@ pub(crate) fn take_to_read(
     detector: &mut Detector,
 )
     ensures { detector.new
-        ≡ behind_all (taken_to_read place thread address after.now) detector.old }
+        ≡ noted_all (taken_to_read place thread address after.now) detector.old }
 {
     if after.rwlocks.lock(address).is_reader(thread) && !is_of_kit(address) {
         detector.note(&acquired(thread, Lock::Writers(address), place));
@@ -60,7 +60,7 @@ pub(crate) fn take_to_write(
     detector: &mut Detector,
 )
     ensures { detector.new
-        ≡ behind_all (taken_to_write place thread address after.now) detector.old }
+        ≡ noted_all (taken_to_write place thread address after.now) detector.old }
 {
     if after.rwlocks.lock(address).is_writer(thread) && !is_of_kit(address) {
         detector.note(&acquired(thread, Lock::Writers(address), place));
@@ -86,7 +86,7 @@ fn is_cancelled(threads: &Threads, thread: ThreadId) -> bool
 /// Such a thread has seen what those did who cancelled it.
 fn take_request(place: Place, thread: ThreadId, after: &Tables, detector: &mut Detector)
     ensures { detector.new
-        ≡ behind_all (taken_request place thread after.now) detector.old }
+        ≡ noted_all (taken_request place thread after.now) detector.old }
 {
     if is_cancelled(&after.threads, thread) {
         detector.note(&acquired(thread, Lock::Request(u32::from(thread)), place));
@@ -109,7 +109,7 @@ fn watch_reason(
     detector: &mut Detector,
 )
     ensures { detector.new
-        ≡ behind_all (of_reason place thread reason after.now) detector.old }
+        ≡ noted_all (of_reason place thread reason after.now) detector.old }
 {
     match reason {
         Reason::Lock(mutex) => take_mutex(place, thread, mutex, after, detector),
@@ -128,7 +128,7 @@ fn watch_reason(
 
 /// A wait, if it is over.
 fn watch_wait(place: Place, after: &Tables, wait: &Wait, detector: &mut Detector)
-    ensures { detector.new ≡ behind_all (of_wait place after.now wait.now) detector.old }
+    ensures { detector.new ≡ noted_all (of_wait place after.now wait.now) detector.old }
 {
     if waits_now(wait.thread, after) {
         return;
@@ -145,7 +145,7 @@ fn is_retake(reason: Reason) -> bool
 
 /// The request on which a thread acts that waited; behind a condition it acted before.
 fn watch_request(place: Place, after: &Tables, wait: &Wait, detector: &mut Detector)
-    ensures { detector.new ≡ behind_all (of_request place after.now wait.now) detector.old }
+    ensures { detector.new ≡ noted_all (of_request place after.now wait.now) detector.old }
 {
     if is_retake(wait.reason) {
         return;
@@ -156,7 +156,7 @@ fn watch_request(place: Place, after: &Tables, wait: &Wait, detector: &mut Detec
 /// The requests on which those act who waited.
 fn watch_requests(place: Place, before: &[Wait], after: &Tables, detector: &mut Detector)
     ensures { detector.new
-        ≡ behind_all (flat_map (of_request place after.now) before.now) detector.old }
+        ≡ noted_all (flat_map (of_request place after.now) before.now) detector.old }
 {
     for wait in before {
         watch_request(place, after, wait, detector);
@@ -166,7 +166,7 @@ fn watch_requests(place: Place, before: &[Wait], after: &Tables, detector: &mut 
 /// What those have by now whose waits are over.
 fn watch_reasons(place: Place, before: &[Wait], after: &Tables, detector: &mut Detector)
     ensures { detector.new
-        ≡ behind_all (flat_map (of_wait place after.now) before.now) detector.old }
+        ≡ noted_all (flat_map (of_wait place after.now) before.now) detector.old }
 {
     for wait in before {
         watch_wait(place, after, wait, detector);
@@ -176,7 +176,7 @@ fn watch_reasons(place: Place, before: &[Wait], after: &Tables, detector: &mut D
 /// Those waits that are over: first the requests on which threads act.
 #[tactic(auto, using(crate::proofs::BehindLemmas::behind_both))]
 pub(crate) fn watch_waits(place: Place, before: &[Wait], after: &Tables, detector: &mut Detector)
-    ensures { detector.new ≡ behind_all (of_waits place before.now after.now) detector.old }
+    ensures { detector.new ≡ noted_all (of_waits place before.now after.now) detector.old }
 {
     watch_requests(place, before, after, detector);
     watch_reasons(place, before, after, detector);
@@ -184,7 +184,7 @@ pub(crate) fn watch_waits(place: Place, before: &[Wait], after: &Tables, detecto
 
 /// The thread that acted on a request by a step.
 pub(crate) fn watch_acting(place: Place, acting: Option<ThreadId>, detector: &mut Detector)
-    ensures { detector.new ≡ behind_all (of_acting place acting) detector.old }
+    ensures { detector.new ≡ noted_all (of_acting place acting) detector.old }
 {
     if let Some(thread) = acting {
         detector.note(&acquired(thread, Lock::Request(u32::from(thread)), place));

@@ -1,14 +1,13 @@
 //! The races of events.
-ghost use Rattle.std.specs.Prelude.{◌≡◌, ◌⊎◌, ◌<◌, ◌+◌, ◌^◌, IfErr, IfOk, OnOk, length};
-ghost use Rattle.std.specs.Bool.{OnFalse, OnTrue};
+ghost use Rattle.std.specs.Prelude.{◌≡◌, ◌⊎◌, ◌<◌, ◌+◌, ◌^◌, false, IfErr, IfOk, OnOk, length};
 ghost use Rattle.std.specs.Io.KnownBytes.{Appends};
 ghost use Rattle.ckrt_machine.specs.Events.{AllAccepted};
 ghost use Rattle.ckrt_inspect.specs.declared.fault.InspectFault.TheVariants.{OutOfMemory, Write as Writing};
 ghost use Rattle.ckrt_look_calls.specs.Stretches.{IsEventsFault};
-ghost use Rattle.ckrt_look_clocks.specs.Detection.{behind_all, fresh};
+ghost use Rattle.ckrt_look_clocks.specs.Within.{noted_all, fresh_within, is_full};
 ghost use Rattle.ckrt_look_races.specs.Holders as holders;
 ghost use Rattle.ckrt_look_races.specs.Again.{IsSound, race_text, replay_of};
-ghost use Rattle.ckrt_look_races.specs.Recorded.{races_text, words_of};
+ghost use Rattle.ckrt_look_races.specs.Recorded.{races_text, slots_in, words_of};
 ghost use Rattle.ckrt_look_races.specs.Steps.{of_events};
 ghost use Rattle.ckrt_look_races.specs.Texts.{found_text};
 
@@ -19,38 +18,48 @@ use crate::texts::{write_none, write_others_line};
 use crate::walk::watch_event;
 use ckrt_events::Event;
 use ckrt_inspect::InspectFault;
-use ckrt_look_clocks::Detector;
+use ckrt_look_clocks::{Detector, PART_BYTES};
 use ckrt_look_recording::Rule;
 use ckrt_machine::Machine;
 use std::alloc::{AllocError, Global};
 use std::io::Write;
 
-/// Makes events, if each is accepted at its turn, and gives a detector their operations. The first is behind `count` others.
+/// Makes events, and gives a detector their operations, as long as its room isn't used up. The first is behind `count` others.
+///
+/// # Errors
+///
+/// `Damaged` where an event isn't accepted at its turn, `OutOfMemory` where the room is used up.
 fn watch_events(
     machine: &mut Machine,
     count: u64,
     events: &[Event],
     detector: &mut Detector,
-) -> bool
+) -> Result<(), InspectFault>
     requires few { count + length events.now < 2 ^ 64 }
-    ensures watched { OnTrue result
-        (detector.new ≡ behind_all (of_events count events.now machine.old.state) detector.old) }
-    ensures accepted { OnTrue result (AllAccepted events.now machine.old.state) }
-    ensures refused { OnFalse result (AllAccepted events.now machine.old.state → ⊥) }
+    requires left { is_full detector.old ≡ false }
+    ensures watched { OnOk result
+        (detector.new
+        ≡ noted_all (of_events count events.now machine.old.state) detector.old) }
+    ensures left { OnOk result (is_full detector.new ≡ false) }
+    ensures accepted { OnOk result (AllAccepted events.now machine.old.state) }
+    ensures fault { IfErr result (IsEventsFault events.now machine.old.state) }
 {
     let mut done = count;
     for event in events {
         if !event.in_range() || machine.accept(0, event).is_err() {
-            return false;
+            return Err(InspectFault::Damaged);
         }
         watch_event(machine, done, event, detector);
+        if detector.is_full() {
+            return Err(InspectFault::OutOfMemory);
+        }
         done += 1;
     }
-    true
+    Ok(())
 }
 
-/// How many pages a program has at most whose races are looked for: for each there are 280 KiB.
-pub const PAGES_LIMIT: u32 = 8_192;
+/// How many bytes the room of a look at races has at most: it takes the shadow of 8,193 parts of memory, of 4,096 bytes each.
+pub const ROOM: u64 = 2_349_096_960;
 
 /// How many words of memory there are, from address 0 on.
 fn words_of(machine: &Machine) -> usize
@@ -59,16 +68,28 @@ fn words_of(machine: &Machine) -> usize
     1024 * machine.memory().pages() as usize
 }
 
-/// A detector for what a machine does from here on: what was done before is taken as ordered. It takes 14 MB, and 70 bytes for each of
-/// the guest's memory. It fails where the allocator refuses them, or the program has more than [`PAGES_LIMIT`] pages.
-pub fn detector_for(alloc: Global, machine: &Machine) -> Result<Detector, AllocError>
-    ensures { IfOk result (λ detector.
-        detector ≡ fresh holders.HOLDERS (words_of machine.now.state)) }
+/// How many slots a room of so many bytes has: no more than a memory of so many words has parts.
+fn slots_in(room: u64, words: usize) -> usize
+    ensures { result ≡ slots_in room words }
 {
-    if machine.memory().pages() > PAGES_LIMIT {
-        return Err(AllocError);
+    let parts = words / 1024 + 1;
+    let slots = room / PART_BYTES;
+    if slots < parts as u64 {
+        slots as usize
+    } else {
+        parts
     }
-    Detector::new(alloc, HOLDERS, words_of(machine))
+}
+
+/// A detector for what a machine does from here on: what was done before is taken as ordered. It takes 14 MB, and a room of so many
+/// bytes, or of as many as a shadow of all the guest's memory takes where these are fewer.
+pub fn detector_for(alloc: Global, machine: &Machine, room: u64) -> Result<Detector, AllocError>
+    ensures { IfOk result (λ detector. detector
+        ≡ fresh_within holders.HOLDERS (words_of machine.now.state)
+        (slots_in room (words_of machine.now.state))) }
+{
+    let words = words_of(machine);
+    Detector::new(alloc, HOLDERS, words, slots_in(room, words))
 }
 
 /// Writes what was found by events.
@@ -83,7 +104,7 @@ fn write_found<W: Write>(
     requires sound { IsSound (replay_of source.now) }
     ensures found { OnOk result (Appends (W.contents out.old) (W.contents out.new)
         (found_text (race_text (replay_of source.now)) source.now.count
-        (source.now.count + length source.now.events.now) detector.now.found)) }
+        (source.now.count + length source.now.events.now) detector.now.watched.found)) }
     ensures fault { IfErr result (λ e. (e ≡ OutOfMemory) ⊎ (e ≡ Writing)) }
 {
     let pairs = detector.pairs();
@@ -104,13 +125,14 @@ fn write_found<W: Write>(
 /// Makes events, each of which is to be accepted at its turn, and writes their races: each pair of places in them once, with the first two
 /// accesses there that race, and how often, or where there were none. Beneath each stand the locks and the callers of both threads at
 /// their accesses, found by the rules, and the memory that was given anew last which has the word of both. The first event is behind
-/// `count` others, and what was done before it is taken as ordered. It takes 14 MB, and 73 bytes for each of the guest's memory, and
-/// twelve more where it looks at a race again.
+/// `count` others, and what was done before it is taken as ordered. It takes 14 MB, three bytes for each of the guest's memory, and a
+/// room of [`ROOM`] bytes at most, or of 70 for each of the guest's memory where these are fewer. Where it looks at a race again it takes
+/// twelve more for each.
 ///
 /// # Errors
 ///
-/// `Damaged` where an event isn't accepted at its turn, `OutOfMemory` where a growth was refused or the program has more than
-/// [`PAGES_LIMIT`] pages, `Write` where the writer failed.
+/// `Damaged` where an event isn't accepted at its turn, `OutOfMemory` where a growth was refused or the room was used up, `Write` where
+/// the writer failed.
 pub fn write_races<W: Write>(
     alloc: Global,
     machine: &mut Machine,
@@ -126,15 +148,13 @@ pub fn write_races<W: Write>(
     ensures accepted { OnOk result (AllAccepted events.now machine.old.state) }
     ensures fault { IfErr result (IsEventsFault events.now machine.old.state) }
 {
-    let Ok(mut detector) = detector_for(alloc, machine) else {
+    let Ok(mut detector) = detector_for(alloc, machine, ROOM) else {
         return Err(InspectFault::OutOfMemory);
     };
     let Ok(start) = copy_of(alloc, machine) else {
         return Err(InspectFault::OutOfMemory);
     };
-    if !watch_events(machine, count, events, &mut detector) {
-        return Err(InspectFault::Damaged);
-    }
+    watch_events(machine, count, events, &mut detector)?;
     let source = Source {
         rules,
         count,

@@ -8,7 +8,7 @@ ghost use Rattle.ckrt_machine.specs.Runs.{run_on, with_byte};
 ghost use Rattle.ckrt_machine.specs.Steps.{hart_step};
 ghost use Rattle.ckrt_look_calls.specs.Events.{state_behind};
 ghost use Rattle.ckrt_look_calls.specs.Lines.{MayStep, put_before};
-ghost use Rattle.ckrt_look_clocks.specs.Detection.{behind_all};
+ghost use Rattle.ckrt_look_clocks.specs.Within.{noted_all};
 ghost use Rattle.ckrt_look_races.specs.Orders.{between};
 ghost use Rattle.ckrt_look_races.specs.Steps.{at, of_event, of_other, of_rest, of_run, of_step};
 
@@ -27,7 +27,7 @@ use ckrt_machine::Machine;
 #[tactic(auto, using(crate::proofs::BehindLemmas::behind_both))]
 fn watch_between(place: Place, before: &Before, after: &Tables, detector: &mut Detector)
     ensures { detector.new
-        ≡ behind_all (between place before.now after.now) detector.old }
+        ≡ noted_all (between place before.now after.now) detector.old }
 {
     let waits = before.waits.as_slice();
     watch_caller(
@@ -57,7 +57,7 @@ fn watch_step(
     ensures output { machine.new.output
         ≡ with_byte (hart_step hart machine.old.state).put (put_before is_first machine.old) }
     ensures watched { detector.new
-        ≡ behind_all (of_step place hart machine.old.state) detector.old }
+        ≡ noted_all (of_step place hart machine.old.state) detector.old }
 {
     if is_quiet(machine, hart) {
         watch_accesses(machine, place, hart, detector);
@@ -76,7 +76,7 @@ fn watch_steps(machine: &mut Machine, made: Place, hart: u8, limit: u32, detecto
         ≡ state_behind (limit - made.step) hart machine.old.state machine.old.output }
     ensures follows { Follows (memory_in machine.old) (memory_in machine.new) }
     ensures watched { detector.new
-        ≡ behind_all (of_rest made.event (limit - made.step) made.step hart machine.old.state
+        ≡ noted_all (of_rest made.event (limit - made.step) made.step hart machine.old.state
         machine.old.output) detector.old }
 {
     for step in made.step..limit {
@@ -99,7 +99,7 @@ fn watch_run(machine: &mut Machine, event: u64, hart: u8, limit: u32, detector: 
     ensures state { machine.new.state ≡ (run_on limit hart machine.old.state []).state }
     ensures follows { Follows (memory_in machine.old) (memory_in machine.new) }
     ensures watched { detector.new
-        ≡ behind_all (of_run event limit 0 hart machine.old.state []) detector.old }
+        ≡ noted_all (of_run event limit 0 hart machine.old.state []) detector.old }
 {
     watch_step(machine, Place { event, step: 0 }, hart, true, detector);
     watch_steps(machine, Place { event, step: 1 }, hart, limit, detector);
@@ -112,7 +112,7 @@ fn watch_other(machine: &mut Machine, count: u64, event: &Event, detector: &mut 
     ensures state { machine.new.state ≡ (step event.now machine.old.state).state }
     ensures follows { Follows (memory_in machine.old) (memory_in machine.new) }
     ensures watched { detector.new
-        ≡ behind_all (of_other count event.now machine.old.state) detector.old }
+        ≡ noted_all (of_other count event.now machine.old.state) detector.old }
 {
     let place = Place {
         event: count,
@@ -131,7 +131,7 @@ pub fn watch_event(machine: &mut Machine, count: u64, event: &Event, detector: &
     ensures state { machine.new.state ≡ (step event.now machine.old.state).state }
     ensures follows { Follows (memory_in machine.old) (memory_in machine.new) }
     ensures watched { detector.new
-        ≡ behind_all (of_event count event.now machine.old.state) detector.old }
+        ≡ noted_all (of_event count event.now machine.old.state) detector.old }
 {
     match event {
         Event::Run(hart, limit) => watch_run(machine, count, *hart, u32::from(*limit), detector),

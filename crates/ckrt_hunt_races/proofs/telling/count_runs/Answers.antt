@@ -9,11 +9,11 @@ pub returns-clause-counted : goal.returns-clause-counted
 returns-clause-counted g c =
     let h = c.args.hunt.now in
     let all = c.args.asked.now.seeds in
-    let some = c.note_seeds-seeds.result in
-    let ensures = c.note_seeds-seeds.ensures in
+    let some = c.in-Some.seeds in
+    let ensures = c.in-Some.ensures in
     let old = c.in_ok-tally.tally in
-    let new = c.note_seeds-seeds.new.tally in
-    let races = raced_in c.note_seeds-seeds.new.races in
+    let new = c.note_seeds-run.new.tally in
+    let races = raced_in c.note_seeds-run.new.races in
     let first = sym ensures.begins.first in
     record {
       begins = ensures.begins;

@@ -3,7 +3,7 @@ use Rattle.ckrt_machine.specs.Events.{After, refusal_of, step}
 use Rattle.ckrt_machine.specs.Steps.{State}
 use Rattle.ckrt_machine.proofs.Fixed.{same_harts}
 use Rattle.ckrt_calls.specs.declared.table.Tables.{Tables}
-use Rattle.ckrt_look_clocks.specs.Detection.{behind_all}
+use Rattle.ckrt_look_clocks.specs.Within.{noted_all}
 use Rattle.ckrt_look_races.specs.Steps.{of_event}
 use Rattle.ckrt_hunt_schedules.specs.declared.made.Made.{Made}
 use Rattle.ckrt_hunt_schedules.specs.Plans.{steps_made}
@@ -34,8 +34,8 @@ returns-clause-seen c = λ start h.
     let m = c.args.made.now in
     let w = c.args.detector.now in
     let noted = c.watch_event.ensures.watched
-    ∙ ap (λ k. behind_all (of_event k e c.args.stepped.now.state) w) c.from.ensures
-    ∙ ap (λ (s : State). behind_all (of_event m.events e s) w) c.requires.alike.same in
+    ∙ ap (λ k. noted_all (of_event k e c.args.stepped.now.state) w) c.from.ensures
+    ∙ ap (λ (s : State). noted_all (of_event m.events e s) w) c.requires.alike.same in
     seen_on c.args.plan.now start m _ c.args.whole.now.state _ e c.runner_of-who.result c.step-answer.result _ w _ (c.runner_of-who.ensures ∙ ap (λ (t : Tables). runner_of e t) c.tables.ensures.tables) c.with.ensures c.step-answer.ensures.step c.requires.scheduled (record { in_range = c.requires.fit.in_range; accepted = c.requires.fit.accepted }) noted h
 
 pub returns-clause-alike : goal.returns-clause-alike

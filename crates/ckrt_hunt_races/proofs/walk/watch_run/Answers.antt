@@ -7,7 +7,7 @@ use Rattle.ckrt_hunt_races.proofs.walk.watch_run.Goals as goal
 
 pub events-init : goal.events-init
 events-init c = record {
-  seen = subst (λ (m : Made). HasSeen c.args.plan.now c.args.whole.now.state m c.args.whole.now.state c.args.detector.now) (sym c.nothing-made.ensures) (seen_first c.args.plan.now c.args.whole.now.state c.args.detector.now c.requires.watched);
+  seen = subst (λ (m : Made). HasSeen c.args.plan.now c.args.whole.now.state m c.args.whole.now.state c.args.detector.now) (sym c.nothing-made.ensures) (seen_first c.args.plan.now c.args.whole.now.state c.args.detector.now c.requires.slots c.requires.noted);
   alike = record { same = c.requires.same; turns = grind (arith, c.nothing-made.ensures); harts = c.requires.harts };
   whole = record { harts = refl; follows = follows_itself _ };
   stepped = record { harts = refl; follows = follows_itself _ };

@@ -1,12 +1,13 @@
 use Rattle.std.proofs.Common.{◌≡◌, ◌∙◌, ap}
 use Rattle.std.proofs.lemmas.Result.{IfOk-weaker}
-use Rattle.ckrt_look_clocks.specs.Detection.{Watched, fresh}
+use Rattle.ckrt_look_clocks.specs.Within.{Detected, fresh_within}
 use Rattle.ckrt_look_races.specs.Holders.{HOLDERS}
-use Rattle.ckrt_look_races.specs.Recorded.{words_of}
+use Rattle.ckrt_look_races.specs.Recorded.{slots_in, words_of}
 use Rattle.ckrt_look_races.proofs.recorded.detector_for.Goals as goal
 
 -- with a word for each of the memory
 pub returns : goal.returns
 returns c =
-    IfOk-weaker c.new.result _ (λ (w : Watched). w ≡ fresh HOLDERS (words_of c.args.machine.now.state))
-    (λ w is. is ∙ ap (λ n. fresh HOLDERS n) c.words_of.ensures) c.new.ensures
+    let room = c.args.room in let words = words_of c.args.machine.now.state in
+    IfOk-weaker c.new.result _ (λ (d : Detected). d ≡ fresh_within HOLDERS words (slots_in room words))
+    (λ d is. is ∙ ap (λ k. fresh_within HOLDERS c.words_of-words.result k) c.slots_in.ensures ∙ ap (λ n. fresh_within HOLDERS n (slots_in room n)) c.words_of-words.ensures) c.new.ensures

@@ -6,7 +6,7 @@ use Rattle.ckrt_machine.specs.Events.{step}
 use Rattle.ckrt_machine.specs.Refusals.{refusal_of}
 use Rattle.ckrt_events.specs.Bytes.{IsInRange}
 use Rattle.ckrt_look_recording.proofs.WayLemmas.{HasComeTo, come_next, next_ahead}
-use Rattle.ckrt_look_clocks.specs.Detection.{Watched, behind_all}
+use Rattle.ckrt_look_clocks.specs.Within.{Detected, noted_all}
 use Rattle.ckrt_look_races.specs.Steps.{of_event, of_events}
 use Rattle.ckrt_look_races.proofs.BehindLemmas.{behind_both}
 use Rattle.ckrt_look_races.proofs.recorded.watch_events.Goals as goal
@@ -24,11 +24,12 @@ loop-event-preserved c =
     let in_range : IsInRange e = search rules in
     let accepted : refusal_of 0 e m.state ≡ None = search rules in
     let rest : List Event = drop (i + 1) es in
-    let parts : behind_all (of_events k (drop i es) m.state) w ≡ behind_all (of_events (k + 1) rest new.state) (behind_all (of_event k e m.state) w) =
-    ap (λ l. behind_all (of_events k l m.state) w) ahead ∙ behind_both (of_event k e m.state) (of_events (k + 1) rest (step e m.state).state) w
-    ∙ ap (λ (z : State). behind_all (of_events (k + 1) rest z) (behind_all (of_event k e m.state) w)) (sym state) in
+    let parts : noted_all (of_events k (drop i es) m.state) w ≡ noted_all (of_events (k + 1) rest new.state) (noted_all (of_event k e m.state) w) =
+    ap (λ l. noted_all (of_events k l m.state) w) ahead ∙ behind_both (of_event k e m.state) (of_events (k + 1) rest (step e m.state).state) w
+    ∙ ap (λ (z : State). noted_all (of_events (k + 1) rest z) (noted_all (of_event k e m.state) w)) (sym state) in
     record {
       done = omega (arith, so_far.done);
       come = come_next e (drop (i + 1) es) es s m.state new.state (record { in_range = in_range; accepted = accepted }) state (subst (λ l. HasComeTo l es s m.state) ahead so_far.come);
-      watched = ap (λ (v : Watched). behind_all (of_events (k + 1) rest new.state) v) c.watch_event.ensures.watched ∙ sym parts ∙ so_far.watched;
+      watched = ap (λ (v : Detected). noted_all (of_events (k + 1) rest new.state) v) c.watch_event.ensures.watched ∙ sym parts ∙ so_far.watched;
+      left = sym c.is_full.ensures ∙ c.if-is_full.false;
     }

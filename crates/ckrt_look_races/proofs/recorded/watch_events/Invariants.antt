@@ -1,6 +1,6 @@
-use Rattle.std.proofs.Common.{◌≡◌, ◌+◌, drop}
+use Rattle.std.proofs.Common.{◌≡◌, ◌+◌, false, drop}
 use Rattle.ckrt_look_recording.proofs.WayLemmas.{HasComeTo}
-use Rattle.ckrt_look_clocks.specs.Detection.{behind_all}
+use Rattle.ckrt_look_clocks.specs.Within.{noted_all, is_full}
 use Rattle.ckrt_look_races.specs.Steps.{of_events}
 use Rattle.ckrt_look_races.proofs.recorded.watch_events.Given as goal
 
@@ -9,5 +9,6 @@ abbrev pub invariant-loop-event : goal.invariant-loop-event
 invariant-loop-event l = record {
   done : l.done ≡ l.count + l.event-index;
   come : HasComeTo (drop l.event-index l.events) l.events l.fn.machine.state l.machine.state;
-  watched : behind_all (of_events l.done (drop l.event-index l.events) l.machine.state) l.detector ≡ behind_all (of_events l.count l.events l.fn.machine.state) l.fn.detector;
+  watched : noted_all (of_events l.done (drop l.event-index l.events) l.machine.state) l.detector ≡ noted_all (of_events l.count l.events l.fn.machine.state) l.fn.detector;
+  left : is_full l.detector ≡ false;
 }

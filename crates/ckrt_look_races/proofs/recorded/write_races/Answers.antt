@@ -1,11 +1,14 @@
-use Rattle.std.proofs.Common.{◌≡◌, ◌+◌, ◌∙◌, ap, length, subst}
+use Rattle.std.proofs.Common.{◌≡◌, ◌+◌, ◌∙◌, ap, length, subst, sym}
 use Rattle.std.proofs.lemmas.Result.{on_ok_weaker}
 use Rattle.std.specs.Io.KnownBytes.{Appends}
 use Rattle.ckrt_machine.specs.Steps.{State}
 use Rattle.ckrt_look_clocks.specs.Detection.{Watched, behind_all, fresh}
+use Rattle.ckrt_look_clocks.specs.Within.{Detected, noted_all, fresh_within, is_full}
+use Rattle.ckrt_look_clocks.proofs.WithinLemmas.{nothing_left_out}
 use Rattle.ckrt_look_races.specs.Again.{race_text}
 use Rattle.ckrt_look_races.specs.Holders.{HOLDERS}
-use Rattle.ckrt_look_races.specs.Recorded.{found_by, replay, words_of}
+use Rattle.ckrt_look_races.specs.Recorded.{found_by, replay, slots_in, words_of}
+use Rattle.ckrt_look_races.specs.declared.recorded.TheConstants.{ROOM}
 use Rattle.ckrt_look_races.specs.Steps.{of_events}
 use Rattle.ckrt_look_races.specs.Texts.{found_text}
 use Rattle.ckrt_look_races.proofs.recorded.write_races.Goals as goal
@@ -14,8 +17,12 @@ pub returns-clause-races : goal.returns-clause-races
 returns-clause-races g c =
     let s = c.args.machine.now.state in let k = c.args.count in let es = c.args.events.now in let by = c.args.rules.now in
     let os = of_events k es s in
-    let begun : c.in-Ok.detector ≡ fresh HOLDERS (words_of s) = c.in-Ok.ensures in
-    let all : c.watch_events.new.detector ≡ behind_all os (fresh HOLDERS (words_of s)) = c.if-not-watch_events.ensures.watched ∙ ap (λ (w : Watched). behind_all os w) begun in
+    let slots = slots_in ROOM (words_of s) in
+    let begun : c.in-Ok.detector ≡ fresh_within HOLDERS (words_of s) slots = c.in-Ok.ensures in
+    let noted : c.watch_events.new.detector ≡ noted_all os (fresh_within HOLDERS (words_of s) slots) =
+    c.in_ok-watch_events.ensures.watched ∙ ap (λ (d : Detected). noted_all os d) begun in
+    let all : c.watch_events.new.detector.watched ≡ behind_all os (fresh HOLDERS (words_of s)) =
+    ap (λ (d : Detected). d.watched) noted ∙ nothing_left_out HOLDERS (words_of s) slots os (sym (ap is_full noted) ∙ c.in_ok-watch_events.ensures.left) in
     let start = c.in-Ok-copy_of.start in
     let copied : start.state ≡ s = c.in-Ok-copy_of.ensures in
     let a = g.W.Write.contents c.args.out.now in let z = g.W.Write.contents c.write_found.new.out in

@@ -2,7 +2,7 @@ use Rattle.std.proofs.Common.{◌≡◌, ◌-◌, ◌≤◌}
 use Rattle.ckrt_memory.specs.Marks.{Follows}
 use Rattle.ckrt_machine.specs.Events.{memory_in}
 use Rattle.ckrt_look_calls.specs.Events.{state_behind}
-use Rattle.ckrt_look_clocks.specs.Detection.{behind_all}
+use Rattle.ckrt_look_clocks.specs.Within.{noted_all}
 use Rattle.ckrt_look_races.specs.Steps.{of_rest}
 use Rattle.ckrt_look_races.proofs.walk.watch_steps.Given as goal
 
@@ -12,6 +12,6 @@ invariant-loop-step l = record {
   within : l.step ≤ l.limit;
   state : state_behind (l.limit - l.step) l.hart l.machine.state l.machine.output ≡ state_behind (l.limit - l.made.step) l.hart l.fn.machine.state l.fn.machine.output;
   follows : Follows (memory_in l.fn.machine) (memory_in l.machine);
-  watched : behind_all (of_rest l.made.event (l.limit - l.step) l.step l.hart l.machine.state l.machine.output) l.detector
-      ≡ behind_all (of_rest l.made.event (l.limit - l.made.step) l.made.step l.hart l.fn.machine.state l.fn.machine.output) l.fn.detector;
+  watched : noted_all (of_rest l.made.event (l.limit - l.step) l.step l.hart l.machine.state l.machine.output) l.detector
+      ≡ noted_all (of_rest l.made.event (l.limit - l.made.step) l.made.step l.hart l.fn.machine.state l.fn.machine.output) l.fn.detector;
 }

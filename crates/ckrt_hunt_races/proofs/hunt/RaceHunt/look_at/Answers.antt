@@ -1,9 +1,9 @@
-use Rattle.std.proofs.Common.{◌∙◌, ap, subst, sym}
+use Rattle.std.proofs.Common.{◌∙◌, ap, subst}
 use Rattle.ckrt_machine.specs.Events.{Machine}
 use Rattle.ckrt_hunt_schedules.specs.Tallies.{Hunted}
 use Rattle.ckrt_hunt_races.specs.Races.{raced_in}
 use Rattle.ckrt_hunt_races.specs.RaceRuns.{HasGoneOn, IsBegun, IsLookedAt}
-use Rattle.ckrt_hunt_races.proofs.ReadyLemmas.{begun_again, has_begun, looked, ready_again, room_at}
+use Rattle.ckrt_hunt_races.proofs.ReadyLemmas.{begun_again, has_begun, looked, ready_again, room_at, whole_then}
 use Rattle.ckrt_hunt_races.proofs.hunt.RaceHunt.look_at.Goals as goal
 
 pub put_aside-requires : goal.put_aside-requires
@@ -29,8 +29,9 @@ begin_again-requires-2 c = c.put_aside-2.ensures.aside.well_formed
 pub returns-clause-looked_at : goal.returns-clause-looked_at
 returns-clause-looked_at c =
     let start = ap (λ (m : Machine). m.state) c.put_aside.ensures.machine ∙ c.self.invariant.whole.state in
-    subst (λ (h : Hunted). IsLookedAt h c.args.seed (raced_in c.args.races.now) (raced_in c.note.new.self)) c.self.view_is
-    (looked c.self.inside.hunt c.args.seed c.plan_of.result _ c.watch_run.new.detector _ _ c.plan_of.ensures start c.watch_run.ensures.seen c.note.ensures)
+    whole_then c.note_whole.result _ _ _ c.note_whole.ensures.whole c.note_whole.ensures.noted (λ left noted.
+    subst (λ (h : Hunted). IsLookedAt h c.args.seed (raced_in c.args.races.now) (raced_in c.note_whole.new.races)) c.self.view_is
+    (looked c.self.inside.hunt c.args.seed c.plan_of.result _ c.watch_run.new.detector _ _ c.plan_of.ensures start c.watch_run.ensures.seen left noted))
 
 pub returns-clause-same : goal.returns-clause-same
 returns-clause-same c = c.self.view_is

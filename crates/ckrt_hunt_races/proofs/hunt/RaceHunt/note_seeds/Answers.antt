@@ -13,7 +13,7 @@ loop-seed-preserved g c =
     let seed = c.loop-seed.seed in
     let so_far = c.loop-seed.invariant in
     let n = subst (λ (h : Hunted). IsSeedNoted h seed c.loop-seed.tally c.note_seed.new.tally) so_far.same c.note_seed.ensures.noted in
-    let l = subst (λ (h : Hunted). IsLookedAt h seed (raced_in c.loop-seed.races) (raced_in c.note_seed.new.races)) so_far.same c.note_seed.ensures.looked_at in
+    let l = subst (λ (h : Hunted). IsLookedAt h seed (raced_in c.loop-seed.races) (raced_in c.note_seed.new.races)) so_far.same c.if-not-note_seed.ensures.looked_at in
     record {
       noted = noted_on h c.args.seeds.first seed n.run c.args.tally.now c.loop-seed.tally c.note_seed.new.tally (omega arith) so_far.noted n.ends n.noted;
       looked_at = looked_on h c.args.seeds.first seed (raced_in c.args.races.now) (raced_in c.loop-seed.races) (raced_in c.note_seed.new.races) (omega arith) so_far.looked_at l;
@@ -39,16 +39,22 @@ returns-then-is_over-clause-looked_at g c =
     let first = c.args.seeds.first in
     let seed = c.loop-seed.seed in
     let more : seed + 1 - first ≡ seed - first + 1 = omega arith in
-    let l = subst (λ (h : Hunted). IsLookedAt h seed (raced_in c.loop-seed.races) (raced_in c.note_seed.new.races)) c.loop-seed.invariant.same c.note_seed.ensures.looked_at in
+    let l = subst (λ (h : Hunted). IsLookedAt h seed (raced_in c.loop-seed.races) (raced_in c.note_seed.new.races)) c.loop-seed.invariant.same c.if-not-note_seed.ensures.looked_at in
     subst (λ n. AreLookedAt h first n (raced_in c.args.races.now) (raced_in c.note_seed.new.races)) more
     (looked_on h first seed (raced_in c.args.races.now) (raced_in c.loop-seed.races) (raced_in c.note_seed.new.races) (omega arith) c.loop-seed.invariant.looked_at l)
 
 pub returns-then-is_over-clause-same : goal.returns-then-is_over-clause-same
 returns-then-is_over-clause-same g c = c.note_seed.ensures.same ∙ c.loop-seed.invariant.same
 
+pub returns-then-is_over-clause-ended : goal.returns-then-is_over-clause-ended
+returns-then-is_over-clause-ended g c = record {
+  went_on = c.loop-seed.invariant.asked;
+  ended = λ less. (c.if-is_over.ensures.over refl).1;
+}
+
 -- the last seed comes behind all others
-pub returns-clause-noted : goal.returns-clause-noted
-returns-clause-noted g c =
+pub returns-then-note_seed-clause-noted : goal.returns-then-note_seed-clause-noted
+returns-then-note_seed-clause-noted g c =
     let h = c.args.self.now in
     let s = c.args.seeds in
     let at : c.loop-seed.seed - s.first ≡ s.last - s.first = omega arith in
@@ -58,28 +64,13 @@ returns-clause-noted g c =
     subst (λ n. AreNoted h s.first n c.args.tally.now c.note_seed-2.new.tally) more
     (noted_on h s.first s.last n.run c.args.tally.now c.loop-seed.tally c.note_seed-2.new.tally s.ordered before n.ends n.noted)
 
-pub returns-clause-looked_at : goal.returns-clause-looked_at
-returns-clause-looked_at g c =
+pub returns-then-note_seed-clause-looked_at : goal.returns-then-note_seed-clause-looked_at
+returns-then-note_seed-clause-looked_at g c =
     let h = c.args.self.now in
     let s = c.args.seeds in
     let at : c.loop-seed.seed - s.first ≡ s.last - s.first = omega arith in
     let more : s.last + 1 - s.first ≡ s.last - s.first + 1 = omega (arith, s.ordered) in
     let before = subst (λ n. AreLookedAt h s.first n (raced_in c.args.races.now) (raced_in c.loop-seed.races)) at c.loop-seed.invariant.looked_at in
-    let l = subst (λ (h : Hunted). IsLookedAt h s.last (raced_in c.loop-seed.races) (raced_in c.note_seed-2.new.races)) c.loop-seed.invariant.same c.note_seed-2.ensures.looked_at in
+    let l = subst (λ (h : Hunted). IsLookedAt h s.last (raced_in c.loop-seed.races) (raced_in c.note_seed-2.new.races)) c.loop-seed.invariant.same c.if-note_seed.ensures.looked_at in
     subst (λ n. AreLookedAt h s.first n (raced_in c.args.races.now) (raced_in c.note_seed-2.new.races)) more
     (looked_on h s.first s.last (raced_in c.args.races.now) (raced_in c.loop-seed.races) (raced_in c.note_seed-2.new.races) s.ordered before l)
-
-pub returns-clause-same : goal.returns-clause-same
-returns-clause-same g c = c.note_seed-2.ensures.same ∙ c.loop-seed.invariant.same
-
-pub returns-then-is_over-clause-ended : goal.returns-then-is_over-clause-ended
-returns-then-is_over-clause-ended g c = record {
-  went_on = c.loop-seed.invariant.asked;
-  ended = λ less. (c.if-is_over.ensures.over refl).1;
-}
-
-pub returns-clause-ended : goal.returns-clause-ended
-returns-clause-ended g c = record {
-  went_on = λ yes n from below. c.loop-seed.invariant.asked yes n from (omega (arith, below));
-  ended = λ less. absurd (omega (arith, less));
-}

@@ -1,6 +1,6 @@
 use Rattle.std.proofs.Common.{◌≡◌}
 use Rattle.ckrt_look_clocks.specs.Detection.{compared_stores, found_in}
-use Rattle.ckrt_look_clocks.proofs.detector.compare_stores.Given as goal
+use Rattle.ckrt_look_clocks.proofs.comparing.compare_stores.Given as goal
 
 -- with those of so many bytes
 abbrev pub invariant-loop-byte : goal.invariant-loop-byte
