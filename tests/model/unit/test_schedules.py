@@ -52,6 +52,7 @@ class Schedules(unittest.TestCase):
         for schedule, text in ((Schedule(1_000_000), PLAIN), (Schedule(100, 7), DRAWN), (Schedule(2 ** 64 - 1, 2 ** 64 - 1), GREATEST)):
             self.assertEqual((schedule.encoding(), decoded(note(text))), (note(text), schedule))
         self.assertEqual(Schedule(5, 0).encoding(), note("0500000000000000 0100000000000000 0000000000000000"))
+        self.assertEqual((Schedule(5, 0).numbers, Schedule(5).numbers), ([5, 0], [5]))
 
     def test_none(self):
         """No steps, another number than 0 or 1, a seed where there is none; and zeros."""
