@@ -53,7 +53,6 @@ class Schedules(unittest.TestCase):
             self.assertEqual((schedule.encoding(), decoded(note(text))), (note(text), schedule))
         self.assertEqual(Schedule(5, 0).encoding(), note("0500000000000000 0100000000000000 0000000000000000"))
         self.assertEqual((Schedule(5, 0).numbers, Schedule(5).numbers), ([5, 0], [5]))
-        self.assertEqual([Options(5, seed=seed).schedule for seed in (None, 0, 1)], [Schedule(5), Schedule(5, 0), Schedule(5, 1)])
 
     def test_none(self):
         """No steps, another number than 0 or 1, a seed where there is none; and zeros."""
