@@ -48,6 +48,6 @@ example =
 -- the load is an error, and the second time that it is given back is one
 abbrev pub TheExampleIsTold : Type 0
 TheExampleIsTold =
-    (behind_all example (fresh 8)).found.rows
+    (behind_all example (fresh true 8)).found.rows
     ≡ first_one (does 3 deed.Load 1) (cell.GivenBack block (at 2))
     ∷ first_one (does 4 deed.Free 0) (cell.GivenBack block (at 2)) ∷ []

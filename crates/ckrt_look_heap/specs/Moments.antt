@@ -1,5 +1,5 @@
 -- What is told of a moment, beneath the line of an error (this project's own format): who called.
-use Rattle.std.specs.Prelude.{ℕ, zero, suc, List, [], ◌++◌, codes, decimal, Option, Some, None}
+use Rattle.std.specs.Prelude.{ℕ, zero, suc, false, List, [], ◌++◌, codes, decimal, Option, Some, None}
 use Rattle.std.specs.Option.{option_map_or}
 use Rattle.ckrt_registers.specs.Registers.{Registers}
 use Rattle.ckrt_thread.specs.State as threads

@@ -1,5 +1,5 @@
 -- The errors of memory of recorded events, as they are written.
-use Rattle.std.specs.Prelude.{◌≡◌, ℕ, ◌+◌, ◌/◌, List, length}
+use Rattle.std.specs.Prelude.{◌≡◌, ℕ, ◌+◌, ◌/◌, ◌==◌, List, length}
 use Rattle.ckrt_events.specs.declared.event.Event.{Event}
 use Rattle.ckrt_machine.specs.Steps.{State}
 use Rattle.ckrt_look_recording.specs.declared.rule.Rule.{Rule}
@@ -12,9 +12,13 @@ use Rattle.ckrt_look_heap.specs.Texts.{heap_text}
 abbrev pub words_of : State → ℕ
 words_of s = 1024 + length s.bytes / 4
 
--- the shadow behind these events, of which the first is behind k others, where nothing was told before
+-- behind k events nothing is known of what was told before
+abbrev pub fresh_behind : ℕ → State → Heap
+fresh_behind k s = fresh (k == 0) (words_of s)
+
+-- the shadow behind these events, of which the first is behind k others
 abbrev pub heap_behind : ℕ → List Event → State → Heap
-heap_behind k es s = behind_all (of_events k es s) (fresh (words_of s))
+heap_behind k es s = behind_all (of_events k es s) (fresh_behind k s)
 
 -- what is written of them, with the rules by which callers are found
 abbrev pub replay : List Rule → ℕ → List Event → State → Replay

@@ -24,16 +24,20 @@ begin_of b = 4 * b.first + 4
 abbrev pub part_of : Block → Part
 part_of b = record { first = b.first; count = b.count }
 
--- AN ACCESS is right where all its bytes are those of a block that wasn't given back, or nothing was told of its word
-
-abbrev pub is_within : Access → Block → Bool
-is_within a b =
-    nat_le (begin_of b) a.address && nat_le (a.address + a.size) (begin_of b + b.bytes)
+-- AN ACCESS is right where its bytes are those of a block that wasn't given back, or nothing was told of its word
 
 abbrev pub is_load : Deed → Bool
 is_load deed.Load = true
 is_load deed.Store = false
 is_load deed.Free = false
+
+-- of a word that is loaded whole the first byte is enough: functions of strings go over memory by words
+abbrev pub needed : Access → ℕ
+needed a = if is_load a.deed && a.size == 4 then 1 else a.size
+
+abbrev pub is_within : Access → Block → Bool
+is_within a b =
+    nat_le (begin_of b) a.address && nat_le (a.address + needed a) (begin_of b + b.bytes)
 
 -- the heap looks at a block's size in the word before it
 abbrev pub loads_size : Access → Block → Bool
@@ -105,11 +109,13 @@ noted a c f =
     if list_any (is_at a c) f.rows then record f { rows = counted a c f.rows }
     else with_row a c f
 
--- THE SHADOW, the errors, whether anything was told of memory that is no block's, and whether the program has ended
+-- THE SHADOW, the errors, whether all is known since the program's begin, whether anything was told of memory that is no block's, and
+-- whether the program has ended
 
 pub record Heap : Type 0 where
   pub cells : List Cell
   pub found : Found
+  pub is_whole : Bool
   pub is_told : Bool
   pub has_ended : Bool
 
@@ -172,13 +178,13 @@ given_back m b h = record h {
   cells = filled (few (part_of b) h.cells) b.first (cell.GivenBack b m) h.cells;
 }
 
--- an error, where such are told
+-- an error, where such are told. Where nothing was told of a word, that is one if all is known
 abbrev pub if_told : Bool → Access → Cell → Heap → Heap
 if_told t a c h = if t then with_error a c h else h
 
 abbrev pub freed_as : (is_told : Bool) → Access → Option Cell → Heap → Heap
 freed_as t a None h = h
-freed_as t a (Some cell.Unknown) h = h
+freed_as t a (Some cell.Unknown) h = if_told (t && h.is_whole) a cell.Unknown h
 freed_as t a (Some (cell.Given b)) h =
     if is_begin a b then given_back a.moment b h else if_told t a (cell.Given b) h
 freed_as t a (Some c) h = if_told t a c h
@@ -203,11 +209,12 @@ abbrev pub behind_all : List Note → Heap → Heap
 behind_all [] h = h
 behind_all (n ∷ ns) h = behind_all ns (behind n h)
 
--- nothing was told yet of so many words
-abbrev pub fresh : (words : ℕ) → Heap
-fresh words = record {
+-- nothing was told yet of so many words, from the program's begin on or not
+abbrev pub fresh : (is_whole : Bool) → (words : ℕ) → Heap
+fresh w words = record {
   cells = replicate words cell.Unknown;
   found = no_findings;
+  is_whole = w;
   is_told = false;
   has_ended = false;
 }

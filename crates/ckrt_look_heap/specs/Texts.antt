@@ -37,7 +37,7 @@ given_text deed.Store = codes " beside a block, "
 given_text deed.Free = codes " inside a block, "
 
 abbrev pub where_text : Deed → Cell → List ℕ
-where_text d cell.Unknown = codes ", "
+where_text d cell.Unknown = codes " in no block, "
 where_text d cell.Unowned = codes " in no block, "
 where_text d (cell.Given b) = given_text d
 where_text d (cell.GivenBack b m) = codes " in a block that was given back, "

@@ -1,6 +1,6 @@
 //! Blocks of a heap, what is told of words of memory, and what is done to these.
 ghost use Rattle.std.specs.Prelude.{◌≡◌};
-ghost use Rattle.ckrt_look_heap.specs.Shadow.{begin_of, is_begin, is_load, is_within, kind_of, loads_size, may_use, number_of};
+ghost use Rattle.ckrt_look_heap.specs.Shadow.{begin_of, is_begin, is_load, is_within, kind_of, loads_size, may_use, needed, number_of};
 
 use ckrt_look_calls::Place;
 
@@ -72,16 +72,6 @@ pub(crate) fn begin_of(block: &Block) -> u64
     4 * u64::from(block.first) + 4
 }
 
-/// Whether all bytes of an access are a block's.
-fn is_within(access: &Access, block: &Block) -> bool
-    ensures { result ≡ is_within access.now block.now }
-{
-    let block = *block;
-    let begin = begin_of(&block);
-    let first = u64::from(access.address);
-    begin <= first && first + u64::from(access.size) <= begin + u64::from(block.bytes)
-}
-
 /// Whether something is a load.
 fn is_load(deed: Deed) -> bool
     ensures { result ≡ is_load deed }
@@ -90,6 +80,26 @@ fn is_load(deed: Deed) -> bool
         Deed::Load => true,
         Deed::Store | Deed::Free => false,
     }
+}
+
+/// How many bytes of an access have to be a block's: of a word that is loaded whole the first one.
+fn needed(access: &Access) -> u8
+    ensures { result ≡ needed access.now }
+{
+    if is_load(access.deed) && access.size == 4 {
+        return 1;
+    }
+    access.size
+}
+
+/// Whether these bytes of an access are a block's.
+fn is_within(access: &Access, block: &Block) -> bool
+    ensures { result ≡ is_within access.now block.now }
+{
+    let block = *block;
+    let begin = begin_of(&block);
+    let first = u64::from(access.address);
+    begin <= first && first + u64::from(needed(access)) <= begin + u64::from(block.bytes)
 }
 
 /// Whether an access loads the word before a block, where the heap has the block's size.

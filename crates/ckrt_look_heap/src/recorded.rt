@@ -6,8 +6,8 @@ ghost use Rattle.ckrt_machine.specs.Events.{AllAccepted};
 ghost use Rattle.ckrt_inspect.specs.declared.fault.InspectFault.TheVariants.{OutOfMemory, Write as Writing};
 ghost use Rattle.ckrt_look_calls.specs.Stretches.{IsEventsFault};
 ghost use Rattle.ckrt_look_heap.specs.Again.{IsSound, finding_text, replay_of};
-ghost use Rattle.ckrt_look_heap.specs.Recorded.{errors_text, text_by, words_of};
-ghost use Rattle.ckrt_look_heap.specs.Shadow.{behind_all, fresh};
+ghost use Rattle.ckrt_look_heap.specs.Recorded.{errors_text, fresh_behind, text_by, words_of};
+ghost use Rattle.ckrt_look_heap.specs.Shadow.{behind_all};
 ghost use Rattle.ckrt_look_heap.specs.Steps.{of_events};
 ghost use Rattle.ckrt_look_heap.specs.Texts.{found_text};
 
@@ -54,15 +54,15 @@ fn words_of(machine: &Machine) -> usize
     1024 * machine.memory().pages() as usize
 }
 
-/// A shadow for what a machine does from here on: nothing is known of what was told before. It takes 14 bytes for each of the guest's
+/// A shadow for what a machine does behind so many events: nothing is known of what was told before. It takes 14 bytes for each of the guest's
 /// memory. It fails where the allocator refuses them, or the program has more than [`PAGES_LIMIT`] pages.
-pub fn shadow_for(alloc: Global, machine: &Machine) -> Result<Shadow, AllocError>
-    ensures { IfOk result (λ shadow. shadow ≡ fresh (words_of machine.now.state)) }
+pub fn shadow_for(alloc: Global, machine: &Machine, count: u64) -> Result<Shadow, AllocError>
+    ensures { IfOk result (λ shadow. shadow ≡ fresh_behind count machine.now.state) }
 {
     if machine.memory().pages() > PAGES_LIMIT {
         return Err(AllocError);
     }
-    Shadow::new(alloc, words_of(machine))
+    Shadow::new(alloc, count == 0, words_of(machine))
 }
 
 /// Writes the errors that were found.
@@ -145,7 +145,7 @@ pub fn write_errors<W: Write>(
     ensures accepted { OnOk result (AllAccepted events.now machine.old.state) }
     ensures fault { IfErr result (IsEventsFault events.now machine.old.state) }
 {
-    let Ok(mut shadow) = shadow_for(alloc, machine) else {
+    let Ok(mut shadow) = shadow_for(alloc, machine, count) else {
         return Err(InspectFault::OutOfMemory);
     };
     let Ok(start) = copy_of(alloc, machine) else {

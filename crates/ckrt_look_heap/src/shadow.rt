@@ -24,12 +24,13 @@ pub enum Note {
     End(bool),
 }
 
-/// What was told last of each word of memory, which errors were found, whether anything was told of memory that is no block's, and whether
+/// What was told last of each word of memory, which errors were found, whether all is known since the program's begin, whether anything was told of memory that is no block's, and whether
 /// the program has ended.
 #[derive(Drop)]
 pub struct Shadow {
     cells: Vec<Cell>,
     found: Findings,
+    is_whole: bool,
     is_told: bool,
     has_ended: bool,
 }
@@ -42,6 +43,7 @@ impl Model for Shadow {
     ghost view = { λ s. record {
       cells = s.cells.items;
       found = found_in s.found;
+      is_whole = s.is_whole;
       is_told = s.is_told;
       has_ended = s.has_ended;
     } };
@@ -61,13 +63,14 @@ impl Shadow {
     ghost use Rattle.ckrt_look_heap.specs.Shadow.{behind, disowned_in, ended, freed, freed_as, fresh, given, used, wrong};
     ghost use Rattle.std.specs.Prelude.{◌/◌, slice_get, Some};
 
-    /// Nothing was told yet of a memory of so many words. It takes 56 bytes a word.
-    pub fn new(alloc: Global, words: usize) -> Result<Shadow, AllocError>
-        ensures { IfOk result (λ shadow. shadow ≡ fresh words) }
+    /// Nothing was told yet of a memory of so many words, from the program's begin on or not. It takes 56 bytes a word.
+    pub fn new(alloc: Global, is_whole: bool, words: usize) -> Result<Shadow, AllocError>
+        ensures { IfOk result (λ shadow. shadow ≡ fresh is_whole words) }
     {
         Ok(Shadow {
             cells: unknown_cells(alloc, words)?,
             found: Findings::new(alloc)?,
+            is_whole,
             is_told: false,
             has_ended: false,
         })
@@ -102,7 +105,11 @@ impl Shadow {
         ensures { self.new ≡ freed_as is_told access.now (Some cell.now) self.old }
     {
         match cell {
-            Cell::Unknown => {}
+            Cell::Unknown => {
+                if is_told && self.is_whole {
+                    self.found.note(access, cell);
+                }
+            }
             Cell::Given(block) if is_begin(access, block) => {
                 let back = Cell::GivenBack(*block, access.moment);
                 fill(&mut self.cells, part_of(block), &back);

@@ -67,8 +67,7 @@ fn where_text(deed: Deed, cell: &Cell) -> &'static [u8]
     ensures { result.now ≡ where_text deed cell.now }
 {
     match cell {
-        Cell::Unknown => b", ".as_slice(),
-        Cell::Unowned => b" in no block, ".as_slice(),
+        Cell::Unknown | Cell::Unowned => b" in no block, ".as_slice(),
         Cell::Given(_) => given_text(deed),
         Cell::GivenBack(_, _) => b" in a block that was given back, ".as_slice(),
         Cell::Ended(_, _) => b" in a stack that has ended, ".as_slice(),
