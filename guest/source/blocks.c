@@ -33,10 +33,12 @@ void *__guest_take(size_t bytes) {
     return block;
 }
 
-void __guest_give(void *block, size_t bytes) {
+size_t __guest_give(void *block, size_t bytes) {
     size_t asked = __guest_taking.asked;
+    if (asked != 0) bytes = asked - 1;
     __guest_taking.given = block;
-    tell_given(block, asked != 0 ? asked - 1 : bytes);
+    tell_given(block, bytes);
+    return bytes;
 }
 
 void *KIT_NAME(malloc)(size_t bytes) {

@@ -22,8 +22,8 @@ struct taking {
 };
 extern _Thread_local struct taking __guest_taking;
 
-/* A block of so many bytes is told as given, or of as many as were asked for. */
-void __guest_give(void *block, size_t bytes);
+/* A block of so many bytes is told as given, or of as many as were asked for: the answer is how many it has. */
+size_t __guest_give(void *block, size_t bytes);
 
 /*
  * What is told to those who look back (docs/ABI.md), by instructions that do nothing: SLT and SLTU with rd x0.

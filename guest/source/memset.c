@@ -23,9 +23,9 @@ static inline bool is_in(uintptr_t address, uintptr_t begin, size_t bytes) { ret
 __attribute__((optimize("no-tree-loop-distribute-patterns")))
 void *memset(void *to, int byte, size_t count) {
     uintptr_t caller = (uintptr_t)__builtin_return_address(0);
-    unsigned char *at = to, *end = at + count;
-    if (is_in(caller, (uintptr_t)library_malloc, MALLOC_BYTES)) __guest_give(to, count);
+    if (is_in(caller, (uintptr_t)library_malloc, MALLOC_BYTES)) count = __guest_give(to, count);
     if (__guest_taking.as_it_is) return to;
+    unsigned char *at = to, *end = at + count;
     word bytes = (unsigned char)byte * UINT32_C(0x01010101);
     while (at < end && (uintptr_t)at % sizeof bytes != 0) *at++ = (unsigned char)byte;
     for (; end - at >= 16; at += 16) {
