@@ -10,6 +10,9 @@ use Rattle.ckrt_look_heap.specs.Texts.{bytes_of, plus}
 none_more : (k : ℕ) → k ≡ k + 0
 none_more k = omega arith
 
+from_zero : (n : ℕ) → n ≡ 0 + n
+from_zero n = omega arith
+
 one_along : (k n : ℕ) → k + 1 + n ≡ k + (n + 1)
 one_along k n = omega arith
 
@@ -28,7 +31,7 @@ at_end k (x ∷ xs) c =
 pub left_next : (xs : List Cell) (i : ℕ) (d : Cell) (bs new : List Block) → i < length xs → bs ≡ left_from 0 (take i xs) → new ≡ bs ++ left_in i (get_or xs i d) → new ≡ left_from 0 (take (i + 1) xs)
 left_next xs i d bs new lt so_far is =
     is ∙ ap (λ l. l ++ left_in i (get_or xs i d)) so_far
-    ∙ ap (λ j. left_from 0 (take i xs) ++ left_in j (get_or xs i d)) (sym (length-take-le i xs (omega (arith, lt))))
+    ∙ ap (λ j. left_from 0 (take i xs) ++ left_in j (get_or xs i d)) (sym (length-take-le i xs (omega (arith, lt))) ∙ from_zero (length (take i xs)))
     ∙ sym (at_end 0 (take i xs) (get_or xs i d)) ∙ ap (left_from 0) (sym (take_more xs i d lt))
 
 -- all words

@@ -107,10 +107,12 @@ abbrev pub more_text : (count : ℕ) → List ℕ
 more_text n =
     if nat_le n SHOWN then [] else codes "    and " ++ decimal (n - SHOWN) ++ codes " others\n"
 
+abbrev pub counted_text : (Block → List ℕ) → List Block → List ℕ
+counted_text each bs = sum_text bs ++ (flat_map each (take SHOWN bs) ++ more_text (length bs))
+
 abbrev pub blocks_text : (Block → List ℕ) → List Block → List ℕ
 blocks_text each [] = []
-blocks_text each (b ∷ bs) =
-    sum_text (b ∷ bs) ++ (flat_map each (take SHOWN (b ∷ bs)) ++ more_text (length (b ∷ bs)))
+blocks_text each (b ∷ bs) = counted_text each (b ∷ bs)
 
 abbrev pub left_lines : (Block → List ℕ) → Heap → List ℕ
 left_lines each h = if h.has_ended then blocks_text each (left_from 0 h.cells) else []

@@ -3,6 +3,7 @@ ghost use Rattle.std.specs.Prelude.{◌≡◌, ◌⊎◌, ◌++◌, IfErr, IfOk,
 ghost use Rattle.std.specs.Io.KnownBytes.{Appends};
 ghost use Rattle.std.specs.List.{flat_map};
 ghost use Rattle.ckrt_inspect.specs.declared.fault.InspectFault.TheVariants.{OutOfMemory, Write as Writing};
+ghost use Rattle.ckrt_look_heap.specs.declared.block.Cell.TheVariants as cell;
 ghost use Rattle.ckrt_look_heap.specs.Again.{AreBehind, IsBehind, IsSound, address_of, back_line, back_text, block_line, block_text, by_text, cell_text, finding_text, left_text, made_text, replay_of, taken_text};
 
 use crate::block::{Block, Cell, Moment};
@@ -177,6 +178,44 @@ fn write_both<W: Write>(
     write_back(alloc, source, &mut cursors.back, word, moment, out)
 }
 
+/// A block that was given back.
+fn write_given_back<W: Write>(
+    alloc: Global,
+    source: &Source<'_>,
+    cursors: &mut Cursors,
+    block: &Block,
+    moment: &Moment,
+    out: &mut W,
+) -> Result<(), InspectFault>
+    requires sound { IsSound (replay_of source.now) }
+    requires behind { AreBehind (replay_of source.now) cursors.old }
+    ensures written { OnOk result (Appends (W.contents out.old) (W.contents out.new)
+        (cell_text (cell.GivenBack block.now moment.now) (replay_of source.now))) }
+    ensures behind { OnOk result (AreBehind (replay_of source.now) cursors.new) }
+    ensures fault { IfErr result (λ e. (e ≡ OutOfMemory) ⊎ (e ≡ Writing)) }
+{
+    write_both(alloc, source, cursors, block, b"    given back at ", moment, out)
+}
+
+/// A block with a part that has ended.
+fn write_ended<W: Write>(
+    alloc: Global,
+    source: &Source<'_>,
+    cursors: &mut Cursors,
+    block: &Block,
+    moment: &Moment,
+    out: &mut W,
+) -> Result<(), InspectFault>
+    requires sound { IsSound (replay_of source.now) }
+    requires behind { AreBehind (replay_of source.now) cursors.old }
+    ensures written { OnOk result (Appends (W.contents out.old) (W.contents out.new)
+        (cell_text (cell.Ended block.now moment.now) (replay_of source.now))) }
+    ensures behind { OnOk result (AreBehind (replay_of source.now) cursors.new) }
+    ensures fault { IfErr result (λ e. (e ≡ OutOfMemory) ⊎ (e ≡ Writing)) }
+{
+    write_both(alloc, source, cursors, block, b"    ended at ", moment, out)
+}
+
 /// What was told of a word.
 #[tactic(auto, using(ckrt_look_calls::proofs::AppendLemmas::appends_none))]
 fn write_cell<W: Write>(
@@ -197,12 +236,10 @@ fn write_cell<W: Write>(
         Cell::Unknown | Cell::Unowned => Ok(()),
         Cell::Given(block) => write_taken(alloc, source, &mut cursors.taken, block, out),
         Cell::GivenBack(block, moment) => {
-            let word = b"    given back at ";
-            write_both(alloc, source, cursors, block, word, moment, out)
+            write_given_back(alloc, source, cursors, block, moment, out)
         }
         Cell::Ended(block, moment) => {
-            let word = b"    ended at ";
-            write_both(alloc, source, cursors, block, word, moment, out)
+            write_ended(alloc, source, cursors, block, moment, out)
         }
     }
 }

@@ -5,7 +5,7 @@ ghost use Rattle.std.specs.List.{flat_map};
 ghost use Rattle.ckrt_inspect.specs.declared.fault.InspectFault.TheVariants.{OutOfMemory, Write as Writing};
 ghost use Rattle.ckrt_look_heap.specs.Again.{IsSound, left_text, replay_of};
 ghost use Rattle.ckrt_look_heap.specs.Shadow.{left_from, left_in};
-ghost use Rattle.ckrt_look_heap.specs.Texts.{blocks_text, bytes_of, left_lines, more_text, sum_text};
+ghost use Rattle.ckrt_look_heap.specs.Texts.{blocks_text, bytes_of, counted_text, left_lines, more_text, sum_text};
 
 use crate::again::write_blocks;
 use crate::block::{Block, Cell};
@@ -112,8 +112,27 @@ fn write_shown<W: Write>(
     }
 }
 
+/// How many there are, and the first few.
+#[tactic(auto, using(ckrt_look_calls::proofs::AppendLemmas::appends_both))]
+fn write_counted_blocks<W: Write>(
+    alloc: Global,
+    source: &Source<'_>,
+    blocks: &[Block],
+    out: &mut W,
+) -> Result<(), InspectFault>
+    requires sound { IsSound (replay_of source.now) }
+    ensures written { OnOk result (Appends (W.contents out.old) (W.contents out.new)
+        (counted_text (left_text (replay_of source.now)) blocks.now)) }
+    ensures fault { IfErr result (λ e. (e ≡ OutOfMemory) ⊎ (e ≡ Writing)) }
+{
+    let Ok(()) = write_sum(out, blocks) else {
+        return Err(InspectFault::Write);
+    };
+    write_shown(alloc, source, blocks, out)
+}
+
 /// All of them, if there are some.
-#[tactic(auto, using(ckrt_look_calls::proofs::AppendLemmas::appends_both, ckrt_look_calls::proofs::AppendLemmas::appends_none))]
+#[tactic(auto, using(ckrt_look_calls::proofs::AppendLemmas::appends_none))]
 fn write_some<W: Write>(
     alloc: Global,
     source: &Source<'_>,
@@ -128,10 +147,7 @@ fn write_some<W: Write>(
     if blocks.is_empty() {
         return Ok(());
     }
-    let Ok(()) = write_sum(out, blocks) else {
-        return Err(InspectFault::Write);
-    };
-    write_shown(alloc, source, blocks, out)
+    write_counted_blocks(alloc, source, blocks, out)
 }
 
 /// Those of a shadow.
