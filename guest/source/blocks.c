@@ -74,6 +74,16 @@ void *KIT_NAME(realloc)(void *old, size_t bytes) {
     return block;
 }
 
+size_t __real_malloc_usable_size(void *block);
+
+/* It looks at the word before the block. */
+size_t __wrap_malloc_usable_size(void *block) {
+    __guest_take_lock(&__lock___libc_recursive_mutex);
+    size_t bytes = __real_malloc_usable_size(block);
+    __guest_leave_lock(&__lock___libc_recursive_mutex);
+    return bytes;
+}
+
 /* A larger block is taken for it, of which the C library gives back what lies before and behind. */
 static void *aligned(size_t alignment, size_t bytes) {
     void *block = __real_memalign(alignment, bytes);

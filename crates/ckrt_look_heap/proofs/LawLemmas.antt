@@ -1,5 +1,5 @@
 -- Words of a block that is given, or given back.
-use Rattle.std.proofs.Common.{◌≡◌, inl, inr, ◌≤◌, ◌<◌, ℕ, zero, suc, ◌+◌, ◌-◌, ◌/◌, ◌||◌, min, Bool, true, if◌then◌else◌, List, length, get_or, slice_get, Option, Some, None, refl, ap, ◌∙◌, arith}
+use Rattle.std.proofs.Common.{◌≡◌, inl, inr, ◌≤◌, ◌<◌, ℕ, zero, suc, ◌+◌, ◌-◌, ◌/◌, min, Bool, true, if◌then◌else◌, List, length, get_or, slice_get, Option, Some, None, refl, ap, ◌∙◌, arith}
 use Rattle.std.proofs.lemmas.Bool.{cases_eq}
 use Rattle.std.proofs.lemmas.Grind.{get_or-set_at}
 use Rattle.std.proofs.lemmas.List.{get_or-set_other, length-set}
@@ -8,7 +8,7 @@ use Rattle.ckrt_look_heap.specs.declared.block.Access.{Access}
 use Rattle.ckrt_look_heap.specs.declared.block.Block.{Block}
 use Rattle.ckrt_look_heap.specs.declared.block.Cell.{Cell}
 use Rattle.ckrt_look_heap.specs.declared.block.Cell.TheVariants as cell
-use Rattle.ckrt_look_heap.specs.Shadow.{Heap, few, filled, given, given_back, is_within, loads_size, part_of, used_as, wrong}
+use Rattle.ckrt_look_heap.specs.Shadow.{Heap, few, filled, given, given_back, is_within, part_of, used_as, wrong}
 use Rattle.ckrt_look_heap.specs.Laws.{GivenBackBlocksAreTold, GivenBlocksAreUsed, IsWordOf}
 
 filled_size : (n first : ℕ) (c : Cell) (cells : List Cell) → length (filled n first c cells) ≡ length cells
@@ -38,7 +38,7 @@ told i b h c is =
 pub given_used : GivenBlocksAreUsed
 given_used a b h is within =
     ap (λ (o : Option Cell). used_as a (wrong a o) (given b h)) (told (a.address / 4) b h (cell.Given b) is)
-    ∙ ap (λ (t : Bool). used_as a (if t || loads_size a b then None else Some (cell.Given b)) (given b h)) within
+    ∙ ap (λ (t : Bool). used_as a (if t then None else Some (cell.Given b)) (given b h)) within
 
 pub back_told : GivenBackBlocksAreTold
 back_told a m b h is =

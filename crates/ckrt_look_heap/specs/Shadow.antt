@@ -1,6 +1,6 @@
 -- The shadow of a heap: what was told last of each word of memory, and which loads, stores and frees it doesn't allow (this project's
 -- choice; C11, 7.22.3 Memory management functions: a block's lifetime, and what may be freed).
-use Rattle.std.specs.Prelude.{ℕ, zero, suc, ◌+◌, ◌-◌, ◌*◌, ◌/◌, ◌==◌, nat_le, nat_lt, min, Bool, true, false, ◌&&◌, ◌||◌, if◌then◌else◌, List, [], ◌∷◌, ◌++◌, length, get_or, slice_get, slice_set, replicate, Option, Some, None}
+use Rattle.std.specs.Prelude.{ℕ, zero, suc, ◌+◌, ◌-◌, ◌*◌, ◌/◌, ◌==◌, nat_le, nat_lt, min, Bool, true, false, ◌&&◌, if◌then◌else◌, List, [], ◌∷◌, ◌++◌, length, get_or, slice_get, slice_set, replicate, Option, Some, None}
 use Rattle.std.specs.List.{list_any}
 use Rattle.ckrt_look_heap.specs.declared.block.Access.{Access}
 use Rattle.ckrt_look_heap.specs.declared.block.Block.{Block}
@@ -39,14 +39,10 @@ abbrev pub is_within : Access → Block → Bool
 is_within a b =
     nat_le (begin_of b) a.address && nat_le (a.address + needed a) (begin_of b + b.bytes)
 
--- the heap looks at a block's size in the word before it
-abbrev pub loads_size : Access → Block → Bool
-loads_size a b = is_load a.deed && (a.size == 4 && a.address == 4 * b.first)
-
 abbrev pub may_use : Access → Cell → Bool
 may_use a cell.Unknown = true
 may_use a cell.Unowned = false
-may_use a (cell.Given b) = is_within a b || loads_size a b
+may_use a (cell.Given b) = is_within a b
 may_use a (cell.GivenBack b m) = false
 may_use a (cell.Ended b m) = false
 
@@ -182,15 +178,15 @@ given_back m b h = record h {
 abbrev pub if_told : Bool → Access → Cell → Heap → Heap
 if_told t a c h = if t then with_error a c h else h
 
-abbrev pub freed_as : (is_told : Bool) → Access → Option Cell → Heap → Heap
-freed_as t a None h = h
-freed_as t a (Some cell.Unknown) h = if_told (t && h.is_whole) a cell.Unknown h
-freed_as t a (Some (cell.Given b)) h =
+abbrev pub freed_as : (is_told : Bool) → Access → Cell → Heap → Heap
+freed_as t a cell.Unknown h = if_told (t && h.is_whole) a cell.Unknown h
+freed_as t a (cell.Given b) h =
     if is_begin a b then given_back a.moment b h else if_told t a (cell.Given b) h
-freed_as t a (Some c) h = if_told t a c h
+freed_as t a c h = if_told t a c h
 
 abbrev pub freed : (is_told : Bool) → Access → Heap → Heap
-freed t a h = record (freed_as t a (slice_get h.cells (head_of a)) h) { is_told = true }
+freed t a h =
+    record (freed_as t a (get_or h.cells (head_of a) cell.Unknown) h) { is_told = true }
 
 -- THE END
 abbrev pub ended : (has_ended : Bool) → Heap → Heap

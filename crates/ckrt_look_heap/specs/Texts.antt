@@ -100,19 +100,15 @@ sum_text bs =
     (codes "never given back: " ++ decimal (length bs))
     ++ (codes " blocks, bytes: " ++ decimal (bytes_of 0 bs)) ++ codes "\n"
 
-abbrev pub SHOWN : ℕ
-SHOWN = 16
-
 abbrev pub more_text : (count : ℕ) → List ℕ
 more_text n =
-    if nat_le n SHOWN then [] else codes "    and " ++ decimal (n - SHOWN) ++ codes " others\n"
+    if nat_le n 16 then [] else codes "    and " ++ decimal (n - 16) ++ codes " others\n"
 
 abbrev pub counted_text : (Block → List ℕ) → List Block → List ℕ
-counted_text each bs = sum_text bs ++ (flat_map each (take SHOWN bs) ++ more_text (length bs))
+counted_text each bs = sum_text bs ++ (flat_map each (take 16 bs) ++ more_text (length bs))
 
 abbrev pub blocks_text : (Block → List ℕ) → List Block → List ℕ
-blocks_text each [] = []
-blocks_text each (b ∷ bs) = counted_text each (b ∷ bs)
+blocks_text each bs = if length bs == 0 then [] else counted_text each bs
 
 abbrev pub left_lines : (Block → List ℕ) → Heap → List ℕ
 left_lines each h = if h.has_ended then blocks_text each (left_from 0 h.cells) else []

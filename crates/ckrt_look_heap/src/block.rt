@@ -1,6 +1,6 @@
 //! Blocks of a heap, what is told of words of memory, and what is done to these.
 ghost use Rattle.std.specs.Prelude.{◌≡◌};
-ghost use Rattle.ckrt_look_heap.specs.Shadow.{begin_of, is_begin, is_load, is_within, kind_of, loads_size, may_use, needed, number_of};
+ghost use Rattle.ckrt_look_heap.specs.Shadow.{begin_of, is_begin, is_load, is_within, kind_of, may_use, needed, number_of};
 
 use ckrt_look_calls::Place;
 
@@ -102,22 +102,13 @@ fn is_within(access: &Access, block: &Block) -> bool
     begin <= first && first + u64::from(needed(access)) <= begin + u64::from(block.bytes)
 }
 
-/// Whether an access loads the word before a block, where the heap has the block's size.
-fn loads_size(access: &Access, block: &Block) -> bool
-    ensures { result ≡ loads_size access.now block.now }
-{
-    is_load(access.deed)
-        && access.size == 4
-        && u64::from(access.address) == 4 * u64::from(block.first)
-}
-
 /// Whether a word of which this was told may be loaded or stored so.
 pub(crate) fn may_use(access: &Access, cell: &Cell) -> bool
     ensures { result ≡ may_use access.now cell.now }
 {
     match cell {
         Cell::Unknown => true,
-        Cell::Given(block) => is_within(access, block) || loads_size(access, block),
+        Cell::Given(block) => is_within(access, block),
         Cell::Unowned | Cell::GivenBack(_, _) | Cell::Ended(_, _) => false,
     }
 }

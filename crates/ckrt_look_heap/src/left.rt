@@ -144,10 +144,10 @@ fn write_some<W: Write>(
         (blocks_text (left_text (replay_of source.now)) blocks.now)) }
     ensures fault { IfErr result (λ e. (e ≡ OutOfMemory) ⊎ (e ≡ Writing)) }
 {
-    if blocks.is_empty() {
-        return Ok(());
+    match blocks.len() {
+        0 => Ok(()),
+        _ => write_counted_blocks(alloc, source, blocks, out),
     }
-    write_counted_blocks(alloc, source, blocks, out)
 }
 
 /// Those of a shadow.

@@ -61,7 +61,8 @@ fn part_of(block: &Block) -> Part
 
 impl Shadow {
     ghost use Rattle.ckrt_look_heap.specs.Shadow.{behind, disowned_in, ended, freed, freed_as, fresh, given, used, wrong};
-    ghost use Rattle.std.specs.Prelude.{◌/◌, slice_get, Some};
+    ghost use Rattle.std.specs.Prelude.{◌/◌, get_or, slice_get};
+    ghost use Rattle.ckrt_look_heap.specs.declared.block.Cell.TheVariants as cell;
 
     /// Nothing was told yet of a memory of so many words, from the program's begin on or not. It takes 56 bytes a word.
     pub fn new(alloc: Global, is_whole: bool, words: usize) -> Result<Shadow, AllocError>
@@ -100,9 +101,19 @@ impl Shadow {
         fill(&mut self.cells, part_of(block), &Cell::Given(*block));
     }
 
+    /// What was told of a word: of one that the memory doesn't have nothing was.
+    fn told_of(&self, word: usize) -> Cell
+        ensures { result ≡ get_or self.now.cells word cell.Unknown }
+    {
+        match self.cells.get(word) {
+            Some(cell) => *cell,
+            None => Cell::Unknown,
+        }
+    }
+
     /// A block is given back, of whose word before it this was told.
     fn free_as(&mut self, access: &Access, cell: &Cell, is_told: bool)
-        ensures { self.new ≡ freed_as is_told access.now (Some cell.now) self.old }
+        ensures { self.new ≡ freed_as is_told access.now cell.now self.old }
     {
         match cell {
             Cell::Unknown => {
@@ -127,10 +138,8 @@ impl Shadow {
         ensures { self.new ≡ freed is_told access.now self.old }
     {
         let head = ((access.address / 4).saturating_sub(1)) as usize;
-        if head < self.cells.len() {
-            let cell = self.cells[head];
-            self.free_as(access, &cell, is_told);
-        }
+        let cell = self.told_of(head);
+        self.free_as(access, &cell, is_told);
         self.is_told = true;
     }
 
