@@ -9,7 +9,9 @@ ghost use Rattle.ckrt_cli.specs.Performing.{made_line, MakesPath, Performs, Runs
 ghost use Rattle.ckrt_cli_reports.specs.Outside.{outside};
 ghost use Rattle.ckrt_cli_reports.specs.Lines.{version_line};
 
-use crate::{calls_path, check_path, debug_path, hunt_path, profile_path, races_path, stored, timeline_path};
+use crate::{
+    calls_path, check_path, debug_path, hunt_path, profile_path, races_path, stored, timeline_path,
+};
 use ckrt_cli_disk::{core_path, drive_path, inspect_disk, make_disk, run_disk};
 use ckrt_cli_files::{JobFile, RealDisk, Sources, SystemSources};
 use ckrt_cli_reports::{

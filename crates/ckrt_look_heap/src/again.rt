@@ -194,7 +194,15 @@ fn write_given_back<W: Write>(
     ensures behind { OnOk result (AreBehind (replay_of source.now) cursors.new) }
     ensures fault { IfErr result (λ e. (e ≡ OutOfMemory) ⊎ (e ≡ Writing)) }
 {
-    write_both(alloc, source, cursors, block, b"    given back at ", moment, out)
+    write_both(
+        alloc,
+        source,
+        cursors,
+        block,
+        b"    given back at ",
+        moment,
+        out,
+    )
 }
 
 /// A block with a part that has ended.
@@ -238,9 +246,7 @@ fn write_cell<W: Write>(
         Cell::GivenBack(block, moment) => {
             write_given_back(alloc, source, cursors, block, moment, out)
         }
-        Cell::Ended(block, moment) => {
-            write_ended(alloc, source, cursors, block, moment, out)
-        }
+        Cell::Ended(block, moment) => write_ended(alloc, source, cursors, block, moment, out),
     }
 }
 

@@ -82,7 +82,11 @@ impl Shadow {
         ensures { result ≡ wrong access.now (slice_get self.now.cells (access.now.address / 4)) }
     {
         let cell = self.cells.get((access.address / 4) as usize)?;
-        if may_use(access, cell) { None } else { Some(*cell) }
+        if may_use(access, cell) {
+            None
+        } else {
+            Some(*cell)
+        }
     }
 
     /// A thread loads or stores.
