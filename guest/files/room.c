@@ -6,22 +6,22 @@
 #include "node.h"
 #include <stdlib.h>
 
-void *__real_malloc(size_t bytes);
+void *__guest_malloc(size_t bytes);
 void *__real_calloc(size_t count, size_t size);
-void *__real_realloc(void *block, size_t bytes);
-void *__real_memalign(size_t alignment, size_t bytes);
+void *__guest_realloc(void *block, size_t bytes);
+void *__guest_memalign(size_t alignment, size_t bytes);
 
 /* Whether files may make room for so many bytes: for a number that is out of reach they would give up all for nothing. */
 static bool is_in_reach(size_t bytes) { return bytes > 0 && bytes <= __guest_free_bytes() + __guest_bytes_to_give_up(); }
 
-/* A call __wrap_NAME that tries __real_NAME again as long as files make room. */
-#define WITH_ROOM(name, parameters, arguments, bytes)                            \
+/* A call __wrap_NAME that tries the one below it again as long as files make room. */
+#define WITH_ROOM(name, below, parameters, arguments, bytes)                     \
     void *__wrap_##name parameters {                                             \
-        void *block = __real_##name arguments;                                   \
+        void *block = below arguments;                                           \
         if (block) return block;                                                 \
         int state = __guest_files_lock();                                        \
         if (is_in_reach(bytes)) {                                                \
-            while (!block && __guest_give_up()) block = __real_##name arguments; \
+            while (!block && __guest_give_up()) block = below arguments;         \
         }                                                                        \
         __guest_files_unlock(state);                                             \
         return block;                                                            \
@@ -32,7 +32,7 @@ static size_t product(size_t count, size_t size) {
     return __builtin_mul_overflow(count, size, &bytes) ? SIZE_MAX : bytes;
 }
 
-WITH_ROOM(malloc, (size_t bytes), (bytes), bytes)
-WITH_ROOM(calloc, (size_t count, size_t size), (count, size), product(count, size))
-WITH_ROOM(realloc, (void *old, size_t bytes), (old, bytes), bytes)
-WITH_ROOM(memalign, (size_t alignment, size_t bytes), (alignment, bytes), bytes)
+WITH_ROOM(malloc, __guest_malloc, (size_t bytes), (bytes), bytes)
+WITH_ROOM(calloc, __real_calloc, (size_t count, size_t size), (count, size), product(count, size))
+WITH_ROOM(realloc, __guest_realloc, (void *old, size_t bytes), (old, bytes), bytes)
+WITH_ROOM(memalign, __guest_memalign, (size_t alignment, size_t bytes), (alignment, bytes), bytes)

@@ -10,6 +10,7 @@ static char *heap_begin, *heap_top, *heap_end;
 void __guest_set_heap(char *begin, char *end) {
     heap_begin = heap_top = begin;
     heap_end = end;
+    tell_unowned(begin, (size_t)(end - begin));
 }
 
 /* Who asks how much is free holds no lock: a word is loaded at once. */

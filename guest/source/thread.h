@@ -5,6 +5,12 @@
 #define SPARE_STACK_BYTES 512
 #define THREAD_NAME_BYTES 16
 
+/* Where a record has these. */
+#define MEMORY_AT 0
+#define GUARD_AT 4
+#define STACK_AT 8
+#define STACK_SIZE_AT 16
+
 #ifndef __ASSEMBLER__
 
 #include <pthread.h>
@@ -34,6 +40,11 @@ struct thread {
 
 /* Where tools find it (docs/ABI.md). */
 _Static_assert(offsetof(struct thread, name) == 24, "the name's place in a record");
+
+/* Where thread_end.S does. */
+_Static_assert(offsetof(struct thread, memory) == MEMORY_AT && offsetof(struct thread, guard) == GUARD_AT &&
+                   offsetof(struct thread, stack) == STACK_AT && offsetof(struct thread, stack_size) == STACK_SIZE_AT,
+               "the places in a record");
 
 /* The size of thread-local variables and their alignment, as addresses of these symbols. */
 extern char __guest_locals_size[], __guest_locals_align[];

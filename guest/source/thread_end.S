@@ -15,6 +15,8 @@
 # A detached thread frees the memory that it stands on. So it first goes over to the spare stack, and to thread-local
 # variables that belong to that. One thread at a time stands there, the one that holds the lock; and from the unlock on
 # it touches no memory: what is left is done in registers.
+#
+# Of a thread that is to be joined the stack is told as no block's, where it stands in the kit's own block (docs/ABI.md).
 __guest_thread_end:
     .cfi_startproc
     .cfi_undefined ra
@@ -30,7 +32,14 @@ __guest_thread_end:
     la      sp, __guest_spare_stack_end
     la      tp, __guest_spare_locals
     call    free
-1:  mv      a0, s1
+    j       2f
+1:  lw      t0, MEMORY_AT(s0)
+    lw      t1, GUARD_AT(s0)
+    bne     t0, t1, 2f
+    lw      t0, STACK_AT(s0)
+    lw      t1, STACK_SIZE_AT(s0)
+    sltu    x0, t0, t1
+2:  mv      a0, s1
     li      a7, CALL_MUTEX_UNLOCK
     ecall
     li      t0, UNWINDING_GATE

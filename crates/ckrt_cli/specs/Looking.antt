@@ -12,6 +12,7 @@ use Rattle.ckrt_look_calls.specs.declared.stretch.Stretch.{Stretch}
 use Rattle.ckrt_look_profile.specs.Recorded.{IsProfileText}
 use Rattle.ckrt_look_profile.specs.declared.form.Form.{Form as ProfileTextForm}
 use Rattle.ckrt_look_profile.specs.declared.form.Form.TheVariants as profile
+use Rattle.ckrt_look_heap.specs.Recorded.{IsErrorsText}
 use Rattle.ckrt_look_races.specs.Recorded.{IsRacesText}
 use Rattle.ckrt_look_timeline.specs.Recorded.{IsDrawing}
 use Rattle.ckrt_look_timeline.specs.Widths.{is_width}
@@ -91,6 +92,12 @@ abbrev pub RacesPath : {D : Type 0} → Ghosts D → (D → Type 0) → List Rul
     → (old new : Outside D) → Result (Unit {0}) JobFault → Type 0
 RacesPath d Opens rules s old new result =
     LooksPath d (sight s Opens (IsRacesText rules)) old new result
+
+-- `check`: its errors of memory, a line for each place, with what is told of the first one there by these rules
+abbrev pub ChecksPath : {D : Type 0} → Ghosts D → (D → Type 0) → List Rule → DiskStretch
+    → (old new : Outside D) → Result (Unit {0}) JobFault → Type 0
+ChecksPath d Opens rules s old new result =
+    LooksPath d (sight s Opens (IsErrorsText rules)) old new result
 
 -- `timeline`: what its threads did, as trace events with `--json`, else as a picture
 abbrev pub form_of : Bool → Form

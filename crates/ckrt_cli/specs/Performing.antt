@@ -11,7 +11,7 @@ use Rattle.ckrt_main.specs.Service.{IsStartFault, Served, ServedPart}
 use Rattle.ckrt_main.specs.declared.fault.ServeFault.{ServeFault}
 use Rattle.ckrt_main.specs.declared.fault.ServeFault.TheVariants as serve
 use Rattle.ckrt_cli_words.specs.Commands.{ckrt_app}
-use Rattle.ckrt_cli_words.specs.Jobs.{Driving, Formatting, Hunting, Request, Inspection, asks_both_forms, calls, core, debug, drive, format, hunt, inspect, profile, races, request_of_words, run, stored, timeline, version}
+use Rattle.ckrt_cli_words.specs.Jobs.{Driving, Formatting, Hunting, Request, Inspection, asks_both_forms, calls, check, core, debug, drive, format, hunt, inspect, profile, races, request_of_words, run, stored, timeline, version}
 use Rattle.ckrt_cli_words.specs.declared.job.WordsFault.{WordsFault}
 use Rattle.ckrt_cli_words.specs.declared.job.WordsFault.TheVariants as words
 use Rattle.ckrt_drive.specs.declared.stream.StreamOutput.{StreamOutput}
@@ -27,7 +27,7 @@ use Rattle.ckrt_cli_disk.specs.Showing.{Shows, shown_of}
 use Rattle.ckrt_hunt_schedules.specs.declared.verdict.Verdict.{Verdict}
 use Rattle.ckrt_hunt_schedules.specs.declared.verdict.Verdict.TheVariants as verdict
 use Rattle.ckrt_look_recording.specs.declared.rule.Rule.{Rule}
-use Rattle.ckrt_cli.specs.Looking.{ProfilesPath, RacesPath, TimelinePath, TracesPath}
+use Rattle.ckrt_cli.specs.Looking.{ChecksPath, ProfilesPath, RacesPath, TimelinePath, TracesPath}
 use Rattle.ckrt_cli.specs.Debugging.{DebugsPath}
 use Rattle.ckrt_cli.specs.Hunting.{Hunter, HuntsPath, kept_size}
 use Rattle.ckrt_cli_files.specs.Real.{IsDiskOf, IsFilledOf, RealFile, real_gives}
@@ -226,6 +226,8 @@ Performs {d = d} it (debug j) old new outcome =
     Does outcome_without_end (DebugsPath d (it.Opens j.disk) j old new) outcome
 Performs {d = d} it (races s) old new outcome =
     Does outcome_without_end (RacesPath d (it.Opens s.disk) it.rules s old new) outcome
+Performs {d = d} it (check s) old new outcome =
+    Does outcome_without_end (ChecksPath d (it.Opens s.disk) it.rules s old new) outcome
 Performs {d = d} it (timeline j) old new outcome =
     Does outcome_without_end (TimelinePath d (it.Opens j.stretch.disk) j old new) outcome
 Performs {d = d} it (profile p) old new outcome =

@@ -24,7 +24,7 @@
 //! has recorded, all or a stretch of them; where it hasn't recorded all of that stretch, the fault is Unrecorded; Range comes exactly
 //! where the stretch would end before it begins.
 //!
-//! Proved of [`races_path`]: the same of the pairs of places that race.
+//! Proved of [`races_path`]: the same of the pairs of places that race, and of [`check_path`]: of the errors of memory.
 //!
 //! Proved of [`timeline_path`]: the same of what each thread did, as a picture or as trace events; Range comes also exactly where the
 //! width is out of its range, and nothing is asked for then.
@@ -54,6 +54,7 @@
 #![tactic(auto)]
 
 mod calls;
+mod check;
 mod debug;
 mod folder;
 mod found;
@@ -71,6 +72,7 @@ mod stored;
 mod timeline;
 
 pub use calls::calls_path;
+pub use check::check_path;
 pub use debug::debug_path;
 pub use hunting::hunt_path;
 pub use laws::{commands_go_on, disks_are_left_before_drives, runs_go_on};

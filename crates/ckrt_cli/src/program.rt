@@ -9,7 +9,9 @@ ghost use Rattle.ckrt_cli.specs.Performing.{made_line, MakesPath, Performs, Runs
 ghost use Rattle.ckrt_cli_reports.specs.Outside.{outside};
 ghost use Rattle.ckrt_cli_reports.specs.Lines.{version_line};
 
-use crate::{calls_path, debug_path, hunt_path, profile_path, races_path, stored, timeline_path};
+use crate::{
+    calls_path, check_path, debug_path, hunt_path, profile_path, races_path, stored, timeline_path,
+};
 use ckrt_cli_disk::{core_path, drive_path, inspect_disk, make_disk, run_disk};
 use ckrt_cli_files::{ImageReader, JobFile, RealDisk, Sources, SystemSources};
 use ckrt_cli_reports::{
@@ -225,6 +227,9 @@ fn perform<
         Job::Races(job) => {
             without_end(races_path::<I, D, S, W>(alloc, job, rules, sources, writer))
         }
+        Job::Check(job) => {
+            without_end(check_path::<I, D, S, W>(alloc, job, rules, sources, writer))
+        }
         Job::Timeline(job) => {
             without_end(timeline_path::<I, D, S, W>(alloc, job, sources, writer))
         }
@@ -240,7 +245,7 @@ fn perform<
 
 /// Does what the words after the program's name ask for, with images and disks of any sources: `format DISK IMAGE` prints
 /// `formatted SIZE`, `run DISK` answers the lines of the reader, `inspect DISK` shows what the disk holds, `core DISK FILE`
-/// writes it as a core into FILE, `calls DISK` tells its calls, `debug DISK` serves it to gdb, `races DISK` tells its data races, with callers by these rules, `profile DISK` where its
+/// writes it as a core into FILE, `calls DISK` tells its calls, `debug DISK` serves it to gdb, `races DISK` tells its data races and `check DISK` its errors of memory, with callers by these rules, `profile DISK` where its
 /// steps went, `timeline DISK` draws what its threads did, `hunt IMAGE` tells what other schedules come to, `drive DISK`
 /// runs its program to its end, with its output in a file or printed, and reports what it came to in a line, `--version`
 /// prints the version and its kit, no words serve the stored program in memory. Of a fault two lines are reported: what is

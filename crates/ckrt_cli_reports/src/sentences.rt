@@ -127,7 +127,7 @@ fn unfit_hunt(job: &HuntJob<'_>) -> Sentence<'static> {
 fn unfit(job: &Job<'_>) -> Sentence<'static> {
     match job {
         Job::Drive(job) => unfit_drive(job),
-        Job::Calls(_) | Job::Races(_) | Job::Profile(_) => plain(TURNED),
+        Job::Calls(_) | Job::Races(_) | Job::Check(_) | Job::Profile(_) => plain(TURNED),
         Job::Timeline(job) => unfit_drawing(job),
         Job::Hunt(job) => unfit_hunt(job),
         _ => plain(""),
@@ -229,6 +229,7 @@ fn path<'a>(job: &Job<'a>, file: JobFile) -> &'a str {
         (Job::Calls(job), JobFile::Disk) => job.disk,
         (Job::Debug(job), JobFile::Disk) => job.disk,
         (Job::Races(job), JobFile::Disk) => job.disk,
+        (Job::Check(job), JobFile::Disk) => job.disk,
         (Job::Timeline(job), JobFile::Disk) => job.stretch.disk,
         (Job::Profile(job), JobFile::Disk) => job.stretch.disk,
         (Job::Hunt(job), JobFile::Image) => job.image,

@@ -17,7 +17,7 @@ use Rattle.clap.specs.declared.builder.value_parser.ValueParser.TheVariants as v
 use Rattle.clap.proofs.CallerReads.{signed_reads}
 use Rattle.clap.proofs.ValueTestLemmas.{accepts-Accepts}
 use Rattle.ckrt_cli_words.specs.Commands.{ckrt_app}
-use Rattle.ckrt_cli_words.specs.Jobs.{DiskStretch, Request, calls, core, debug, asks_both_forms, disk_stretch_in, drive, flag_in, form_of, format, has_both_forms, hunt, inspect, profile, races, run, number_in, number_of, place_in, request_in, sizes_in, timeline}
+use Rattle.ckrt_cli_words.specs.Jobs.{DiskStretch, Request, calls, check, core, debug, asks_both_forms, disk_stretch_in, drive, flag_in, form_of, format, has_both_forms, hunt, inspect, profile, races, run, number_in, number_of, place_in, request_in, sizes_in, timeline}
 use Rattle.ckrt_cli_words.specs.declared.job.ProfileForm.{ProfileForm}
 use Rattle.ckrt_cli_words.specs.declared.job.ProfileForm.TheVariants as form
 use Rattle.clap.proofs.WalkLemmas.{both}
@@ -61,6 +61,9 @@ profile_shape = unwrap_or (slice_get built_app.subs 9) built_app.top
 abbrev hunt_shape : Shape
 hunt_shape = unwrap_or (slice_get built_app.subs 10) built_app.top
 
+abbrev check_shape : Shape
+check_shape = unwrap_or (slice_get built_app.subs 11) built_app.top
+
 format_rules : AreRules format_shape refl format_shape.rules
 format_rules = ((refl, inl (refl, refl)), ((refl, inl (refl, refl)), ((refl, inl (refl, refl)), ((refl, inl (refl, refl)), ((refl, inl (refl, refl)), ((refl, inl (refl, refl)), ((refl, inr (inl refl)), tt)))))))
 
@@ -84,6 +87,9 @@ debug_rules = ((refl, inl (refl, refl)), ((refl, inl (refl, refl)), ((refl, inr 
 
 races_rules : AreRules races_shape refl races_shape.rules
 races_rules = ((refl, inl (refl, refl)), ((refl, inl (refl, refl)), ((refl, inl (refl, refl)), ((refl, inl (refl, refl)), ((refl, inl (refl, refl)), ((refl, inr (inl refl)), tt))))))
+
+check_rules : AreRules check_shape refl check_shape.rules
+check_rules = ((refl, inl (refl, refl)), ((refl, inl (refl, refl)), ((refl, inl (refl, refl)), ((refl, inl (refl, refl)), ((refl, inl (refl, refl)), ((refl, inr (inl refl)), tt))))))
 
 timeline_rules : AreRules timeline_shape refl timeline_shape.rules
 timeline_rules = ((refl, inl (refl, refl)), ((refl, inl (refl, refl)), ((refl, inl (refl, refl)), ((refl, inl (refl, refl)), ((refl, inl (refl, refl)), ((refl, inl (refl, refl)), ((refl, inr (inr (refl, (_, [], refl)))), ((refl, inr (inl refl)), tt))))))))
@@ -154,6 +160,14 @@ races_named words pass =
     let given = has_required races_shape rows false (level_valid races_shape [] nothing_held words false pass) refl in
     let stretch = stretch_there races_shape refl rows _ kept refl (both (is_given (codes "disk") rows) true given).0 in
     (races stretch.0, ap (option_map races) stretch.1)
+
+check_named : (words : List Text) → level_passes check_shape [] nothing_held words false ≡ true → (r : Request) × (request_in (rows_at check_shape words) ≡ Some r)
+check_named words pass =
+    let rows = finished check_shape.rules (walk check_shape.rules [] nothing_held words).held in
+    let kept = level_kept check_shape refl check_rules [] nothing_held words false pass tt in
+    let given = has_required check_shape rows false (level_valid check_shape [] nothing_held words false pass) refl in
+    let stretch = stretch_there check_shape refl rows _ kept refl (both (is_given (codes "disk") rows) true given).0 in
+    (check stretch.0, ap (option_map check) stretch.1)
 
 -- two flags, not both of them, ask for a form
 form_there : (folded callgrind : Bool) → (folded && callgrind) ≡ false → (f : ProfileForm) × (form_of folded callgrind ≡ Some f)
@@ -299,7 +313,7 @@ all_named = (
               without_forms debug_shape debug_named,
               (
                 without_forms races_shape races_named,
-                (without_forms timeline_shape timeline_named, (profile_named, (without_forms hunt_shape hunt_named, tt))),
+                (without_forms timeline_shape timeline_named, (profile_named, (without_forms hunt_shape hunt_named, (without_forms check_shape check_named, tt)))),
               ),
             ),
           ),

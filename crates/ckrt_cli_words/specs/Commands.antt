@@ -1,6 +1,6 @@
 -- The program's command line, as `clap` sees it: `format DISK IMAGE [--pages P] [--harts H] [--journal J] [--env NAME=VALUE]`, `run DISK`,
 -- `inspect DISK [--at K] [--code] [--names FILE]`, `core DISK FILE [--at K]`, `calls DISK [--from K] [--to K] [--last N] [--names FILE]`,
--- `debug DISK [--at K]`, `races DISK [--from K] [--to K] [--last N] [--names FILE]`,
+-- `debug DISK [--at K]`, `races DISK [--from K] [--to K] [--last N] [--names FILE]`, `check DISK` with the same,
 -- `timeline DISK [--from K] [--to K] [--last N] [--names FILE] [--width W] [--json]`,
 -- `profile DISK [--from K] [--to K] [--last N] [--names FILE] [--folded | --callgrind]`,
 -- `hunt IMAGE [--seeds A-B | --seconds S] [--pages P] [--harts H] [--input FILE] [--steps N] [--races] [--ignore-output] [--rows] [--keep DISK | FOLDER/] [--table FILE] [--progress SECONDS]
@@ -99,6 +99,9 @@ debug_app =
 abbrev pub races_app : App
 races_app = stretch_app (new_app (codes "races"))
 
+abbrev pub check_app : App
+check_app = stretch_app (new_app (codes "check"))
+
 abbrev pub timeline_app : App
 timeline_app =
     with_rule (with_rule (stretch_app (new_app (codes "timeline")))
@@ -167,4 +170,4 @@ app_with commands = fold (λ whole command. with_subcommand whole command.top) b
 abbrev pub ckrt_app : App
 ckrt_app =
     app_with (format_app ∷ run_app ∷ inspect_app ∷ drive_app ∷ core_app ∷ calls_app ∷ debug_app
-    ∷ races_app ∷ timeline_app ∷ profile_app ∷ hunt_app ∷ [])
+    ∷ races_app ∷ timeline_app ∷ profile_app ∷ hunt_app ∷ check_app ∷ [])

@@ -3,7 +3,7 @@ ghost use Rattle.std.specs.Prelude.{◌≡◌, ◌∷◌, [], IfOk, codes, false
 ghost use Rattle.std.specs.List.{list_all};
 ghost use Rattle.clap.specs.Words.{App, app_of, new_app, rule_of, with_rule, with_subcommand};
 ghost use Rattle.clap.specs.declared.builder.command.Command.TheViews.{out-Command};
-ghost use Rattle.ckrt_cli_words.specs.Commands.{app_with, bare_app, calls_app, ckrt_app, core_app, debug_app, drive_app, flag_rule, format_app, hunt_app, inspect_app, needed_rule, number_rule, option_rule, place_rule, profile_app, races_app, run_app, size_rule, stretch_app, timeline_app};
+ghost use Rattle.ckrt_cli_words.specs.Commands.{app_with, bare_app, calls_app, check_app, ckrt_app, core_app, debug_app, drive_app, flag_rule, format_app, hunt_app, inspect_app, needed_rule, number_rule, option_rule, place_rule, profile_app, races_app, run_app, size_rule, stretch_app, timeline_app};
 
 use clap::{Arg, ArgAction, Command, value_parser};
 use std::alloc::{AllocError, Global};
@@ -310,6 +310,19 @@ fn races_command<'a>(alloc: Global) -> Result<Command<'a>, AllocError>
     Command::new(alloc, "races")
         .about(
             "Tells the data races of a stopped guest, and changes nothing, as `ckrt races pi.disk`",
+        )
+        .args(arguments)
+}
+
+/// `check DISK` with the options of a stretch.
+fn check_command<'a>(alloc: Global) -> Result<Command<'a>, AllocError>
+    ensures app { IfOk result (λ c. app_of c ≡ check_app) }
+    ensures local { IfOk result (λ c. (out-Command c).has_globals ≡ false) }
+{
+    let arguments = stretch_arguments(alloc)?;
+    Command::new(alloc, "check")
+        .about(
+            "Tells the errors of memory of a stopped guest, and changes nothing, as `ckrt check pi.disk`",
         )
         .args(arguments)
 }
@@ -684,10 +697,11 @@ fn command_with_profile<'a>(alloc: Global) -> Result<Command<'a>, AllocError>
     with_command(with_timeline, profile_command(alloc))
 }
 
-/// The program's command line.
+/// The program's command line: with these, `hunt` and `check`.
 pub(crate) fn command<'a>(alloc: Global) -> Result<Command<'a>, AllocError>
     ensures { IfOk result (λ c. app_of c ≡ ckrt_app) }
 {
     let with_profile = command_with_profile(alloc)?;
-    with_command(with_profile, hunt_command(alloc))
+    let with_hunt = with_command(with_profile, hunt_command(alloc))?;
+    with_command(with_hunt, check_command(alloc))
 }

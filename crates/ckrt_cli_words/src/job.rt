@@ -24,6 +24,8 @@ pub enum Job<'a> {
     Debug(DebugJob<'a>),
     /// Tell the data races of what a disk holds: `races DISK`.
     Races(StretchJob<'a>),
+    /// Tell the errors of memory of what a disk holds: `check DISK`.
+    Check(StretchJob<'a>),
     /// Draw what the threads of a disk did: `timeline DISK`.
     Timeline(TimelineJob<'a>),
     /// Count where the steps of a disk went: `profile DISK`.

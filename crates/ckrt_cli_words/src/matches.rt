@@ -1,7 +1,7 @@
 //! What the matches of a command line name.
 ghost use Rattle.std.specs.Prelude.{◌≡◌, codes, option_and_then, option_map};
 ghost use Rattle.clap.specs.Words.{first_of, found_of, rows_of, subcommand_rows_of};
-ghost use Rattle.ckrt_cli_words.specs.Jobs.{calls, core, core_making_in, core_making_of, debug, debugging_in, debugging_of, disk_stretch_in, disk_stretch_of, drawing_in, drawing_of, drive, driving_in, driving_of, flag_in, form_of, format, formatting_in, formatting_of, hunt, hunting_in, hunting_of, inspect, inspection_in, inspection_of, names_in, number_in, place_in, profile, profiling_in, profiling_of, races, request_in, request_of, run, sizes_in, timeline};
+ghost use Rattle.ckrt_cli_words.specs.Jobs.{calls, check, core, core_making_in, core_making_of, debug, debugging_in, debugging_of, disk_stretch_in, disk_stretch_of, drawing_in, drawing_of, drive, driving_in, driving_of, flag_in, form_of, format, formatting_in, formatting_of, hunt, hunting_in, hunting_of, inspect, inspection_in, inspection_of, names_in, number_in, place_in, profile, profiling_in, profiling_of, races, request_in, request_of, run, sizes_in, timeline};
 
 use crate::job::{
     CoreJob, DebugJob, DriveJob, FormatJob, HuntJob, InspectJob, Job, ProfileForm, ProfileJob,
@@ -260,6 +260,14 @@ fn races_named<'a>(given: &ArgMatches<'a>) -> Option<Job<'a>>
     Some(Job::Races(stretch(given)?))
 }
 
+/// The job of `check` with these matches.
+fn check_named<'a>(given: &ArgMatches<'a>) -> Option<Job<'a>>
+    ensures { option_map request_of result
+        ≡ option_map check (disk_stretch_in (rows_of (found_of given.now))) }
+{
+    Some(Job::Check(stretch(given)?))
+}
+
 /// The job of `timeline` with these matches.
 fn timeline_named<'a>(given: &ArgMatches<'a>) -> Option<Job<'a>>
     ensures { option_map request_of result
@@ -320,6 +328,9 @@ fn job_of<'a>(name: &str, given: &ArgMatches<'a>) -> Option<Job<'a>>
     }
     if name == "hunt" {
         return hunt_named(given);
+    }
+    if name == "check" {
+        return check_named(given);
     }
     None
 }

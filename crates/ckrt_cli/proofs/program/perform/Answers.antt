@@ -21,6 +21,11 @@ returns-in-Races g c =
     let unread = g.R.Read.remaining c.args.reader.now in
     record { performs = rw c.in-Races.is (c.races_path.result, c.without_end-in-Races.ensures, c.races_path.ensures.races unread) }
 
+pub returns-in-Check : goal.returns-in-Check
+returns-in-Check g c =
+    let unread = g.R.Read.remaining c.args.reader.now in
+    record { performs = rw c.in-Check.is (c.check_path.result, c.without_end-in-Check.ensures, c.check_path.ensures.checks unread) }
+
 pub returns-in-Hunt : goal.returns-in-Hunt
 returns-in-Hunt g c =
     let unread = g.R.Read.remaining c.args.reader.now in

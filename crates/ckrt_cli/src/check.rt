@@ -1,0 +1,64 @@
+//! Telling the errors of memory of what a disk has recorded.
+ghost use Rattle.std.specs.Prelude.{ℕ, List, Option};
+ghost use Rattle.ckrt_cli_words.specs.Jobs.{disk_stretch_of};
+ghost use Rattle.ckrt_cli_reports.specs.Outside.{outside};
+ghost use Rattle.ckrt_cli.specs.Looking.{ChecksPath};
+
+use crate::looking::look_path;
+use ckrt_cli_files::Sources;
+use ckrt_cli_reports::JobFault;
+use ckrt_cli_words::StretchJob;
+use ckrt_disk::Disk;
+use ckrt_events::Event;
+use ckrt_inspect::InspectFault;
+use ckrt_look_calls::Telling;
+use ckrt_look_heap::write_errors;
+use ckrt_look_recording::Rule;
+use ckrt_machine::Machine;
+use std::alloc::Global;
+use std::io::{Read, Write};
+
+/// Its errors of memory, a line for each place, with what is told of the first one there. Callers are found by rules.
+#[derive(Clone, Copy)]
+struct Errors<'a> {
+    rules: &'a [Rule],
+}
+
+impl Telling for Errors<'_> {
+    ghost use Rattle.ckrt_look_heap.specs.Recorded.{IsErrorsText};
+
+    ghost Tells = { λ r. IsErrorsText r.rules.now };
+
+    fn tell<W: Write>(
+        &self,
+        alloc: Global,
+        machine: &mut Machine,
+        count: u64,
+        events: &[Event],
+        out: &mut W,
+    ) -> Result<(), InspectFault> {
+        write_errors(alloc, machine, count, events, self.rules, out)
+    }
+}
+
+/// Tells the errors of memory of what the disk of a path has recorded, a line for each place, with what is told of the first one there: of
+/// all, or of the events behind so many and up to so many. Callers are found by rules. The disk is only read.
+///
+/// # Errors
+///
+/// As those of [`calls_path`](crate::calls_path).
+pub fn check_path<'a, I: Read, D: Disk, S: Sources<'a, I, D>, W: Write>(
+    alloc: Global,
+    job: &StretchJob<'a>,
+    rules: &[Rule],
+    sources: &mut S,
+    writer: &mut W,
+) -> Result<(), JobFault>
+    ensures checks { (left : Option (List ℕ))
+        → ChecksPath D.Disk (S.opens sources.old job.now.disk.now) rules.now
+        (disk_stretch_of job.now)
+        (outside (S.openings sources.old) (W.contents writer.old) left)
+        (outside (S.openings sources.new) (W.contents writer.new) left) result }
+{
+    look_path::<I, D, S, Errors, W>(alloc, job, &Errors { rules }, sources, writer)
+}

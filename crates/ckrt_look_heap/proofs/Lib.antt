@@ -1,0 +1,9 @@
+pub mod BehindLemmas
+pub mod CallerLemmas
+pub mod CellLemmas
+pub mod FoundLemmas
+pub mod LawLemmas
+pub mod LeftLemmas
+pub mod ListLemmas
+pub mod ReplayLemmas
+pub mod WalkLemmas

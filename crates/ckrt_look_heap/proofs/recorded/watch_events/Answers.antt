@@ -1,0 +1,34 @@
+use Rattle.std.proofs.Common.{◌≡◌, ◌<◌, ◌+◌, ◌∷◌, List, drop, length, slice_get, Some, None, refl, sym, ap, ◌∙◌, subst, arith, rules}
+use Rattle.std.proofs.lemmas.Option.{slice_get_read}
+use Rattle.ckrt_events.specs.declared.event.Event.{Event}
+use Rattle.ckrt_machine.specs.Steps.{State}
+use Rattle.ckrt_machine.specs.Events.{step}
+use Rattle.ckrt_machine.specs.Refusals.{refusal_of}
+use Rattle.ckrt_events.specs.Bytes.{IsInRange}
+use Rattle.ckrt_look_recording.proofs.WayLemmas.{HasComeTo, come_next, next_ahead}
+use Rattle.ckrt_look_heap.specs.Shadow.{Heap, behind_all}
+use Rattle.ckrt_look_heap.specs.Steps.{of_event, of_events}
+use Rattle.ckrt_look_heap.proofs.BehindLemmas.{behind_both}
+use Rattle.ckrt_look_heap.proofs.recorded.watch_events.Goals as goal
+
+pub loop-event-preserved : goal.loop-event-preserved
+loop-event-preserved c =
+    let es = c.args.events.now in let s = c.args.machine.now.state in let i = c.loop-event.event-index in
+    let e = c.event-item.result in let m = c.loop-event.machine in let new = c.watch_event.new.machine in
+    let k = c.loop-event.done in let w = c.loop-event.shadow in
+    let so_far = c.loop-event.invariant in
+    let less : i < length es = c.loop-event-test.true in
+    let is : slice_get es i ≡ Some e = slice_get_read es (length es) i e refl less c.event-item.is in
+    let ahead : drop i es ≡ e ∷ drop (i + 1) es = next_ahead i es e is in
+    let state : new.state ≡ (step e m.state).state = c.watch_event.ensures.state in
+    let in_range : IsInRange e = search rules in
+    let accepted : refusal_of 0 e m.state ≡ None = search rules in
+    let rest : List Event = drop (i + 1) es in
+    let parts : behind_all (of_events k (drop i es) m.state) w ≡ behind_all (of_events (k + 1) rest new.state) (behind_all (of_event k e m.state) w) =
+    ap (λ l. behind_all (of_events k l m.state) w) ahead ∙ behind_both (of_event k e m.state) (of_events (k + 1) rest (step e m.state).state) w
+    ∙ ap (λ (z : State). behind_all (of_events (k + 1) rest z) (behind_all (of_event k e m.state) w)) (sym state) in
+    record {
+      done = omega (arith, so_far.done);
+      come = come_next e (drop (i + 1) es) es s m.state new.state (record { in_range = in_range; accepted = accepted }) state (subst (λ l. HasComeTo l es s m.state) ahead so_far.come);
+      watched = ap (λ (v : Heap). behind_all (of_events (k + 1) rest new.state) v) c.watch_event.ensures.watched ∙ sym parts ∙ so_far.watched;
+    }

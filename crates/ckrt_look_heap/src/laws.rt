@@ -1,0 +1,17 @@
+//! Laws of the shadow. Each is the contract of a function with an empty body.
+ghost use Rattle.ckrt_look_heap.specs.Laws.{GivenBackBlocksAreTold, GivenBlocksAreUsed, TheExampleIsTold};
+
+/// Whoever uses the bytes of a block that was given, and not given back, is told of no error.
+pub fn given_blocks_are_used()
+    ensures { GivenBlocksAreUsed }
+{}
+
+/// Whoever uses a word of a block that was given back is told of an error.
+pub fn given_back_blocks_are_told()
+    ensures { GivenBackBlocksAreTold }
+{}
+
+/// A block that is loaded once it was given back, and given back again, has two errors told of it, and no others.
+pub fn example_is_told()
+    ensures { TheExampleIsTold }
+{}

@@ -1,0 +1,29 @@
+//! Errors of memory: what a guest did to memory that no block of its heap has any more, or never had.
+//!
+//! The kit tells which block is whose, by instructions that do nothing else. A [`Shadow`] has for each word of memory what was told of it
+//! last. [`write_errors`] goes over recorded events step by step, and tells each load, store and free that the shadow doesn't allow, each place in
+//! the program once, with the first one there and how often. Then it tells which blocks were never given back.
+#![tactic(auto)]
+
+mod again;
+mod block;
+mod callers;
+mod cells;
+mod finding;
+mod found;
+mod laws;
+mod left;
+mod moment;
+mod notes;
+mod recorded;
+mod replay;
+mod shadow;
+mod texts;
+mod walk;
+
+pub use block::{Access, Block, Cell, Deed, Moment, Part};
+pub use finding::{FINDINGS, Finding};
+pub use laws::{example_is_told, given_back_blocks_are_told, given_blocks_are_used};
+pub use recorded::{PAGES_LIMIT, shadow_for, write_errors};
+pub use shadow::{Note, Shadow};
+pub use walk::watch_event;
