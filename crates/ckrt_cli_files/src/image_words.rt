@@ -60,7 +60,8 @@ fn place_of(image: &[u8]) -> Option<usize>
 
 /// Puts a text with a zero after it after the bytes that there are.
 fn push_text(image: &mut Vec<u8>, text: &str) -> Result<(), FileFault>
-    ensures pushed { IfOk result (λ _. image.new.items ≡ image.old.items ++ (text.now ++ (0 ∷ []))) }
+    ensures pushed { IfOk result (λ _.
+        image.new.items ≡ image.old.items ++ (text.now ++ (0 ∷ []))) }
     ensures fault { IfErr result (λ e. e ≡ OutOfMemory) }
 {
     let Ok(()) = image.extend_from_slice(text.as_bytes()) else {
