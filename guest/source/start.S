@@ -7,7 +7,7 @@ __guest_start:
     .cfi_startproc
     .cfi_undefined ra
     j       1f
-# By these twelve bytes ckrt finds where an image takes words (docs/ABI.md). guest/image puts 0 for the address where it has some already.
+# By these twelve bytes ckrt finds where an image takes words (docs/ABI.md).
     .ascii  "CKRTWORD"
     .word   __guest_words
 1:

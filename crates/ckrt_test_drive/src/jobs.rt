@@ -265,7 +265,7 @@ fn a_disk_in_use_is_refused(rt: HostRuntime) {
 }
 
 const NUMBER_USAGE: &str =
-    "\nUsage: ckrt format <DISK> <IMAGE> [--pages 16 to 65536] [--harts 1 to 8] [--journal 4096 to 1048576 by 4096]\n";
+    "\nUsage: ckrt format <DISK> <IMAGE> [--pages 16 to 65536] [--harts 1 to 8] [--journal 4096 to 1048576 by 4096] [--env NAME=VALUE] [-- ARGUMENTS]\n";
 
 /// What is wrong with a number that isn't one, and how numbers are given.
 const WRONG_NUMBER: &[Step] = &[Usage("format jobs_h.disk jobs_none.img --pages x", NUMBER_USAGE)];

@@ -127,6 +127,11 @@ const FILES: &[Absent] = &[
         "the disk d: there is no such file\nckrt: File\n",
     ),
     (
+        "check d",
+        JobFile::Disk,
+        "the disk d: there is no such file\nckrt: File\n",
+    ),
+    (
         "timeline d",
         JobFile::Disk,
         "the disk d: there is no such file\nckrt: File\n",
@@ -204,6 +209,14 @@ const REASONS_OF_FILES: &[Unusable] = &[
     (
         FileFault::IsElf,
         "the disk d: it is an ELF file: guest/image, or objcopy -O binary, makes an image of it\nckrt: File\n",
+    ),
+    (
+        FileFault::NoWords,
+        "the disk d: it takes no words: build it by guest/build, without words or files of its own, or leave out -- and --env\nckrt: File\n",
+    ),
+    (
+        FileFault::LongWords,
+        "the disk d: with its words it is longer than the largest guest's memory; give fewer or shorter ones\nckrt: File\n",
     ),
     (
         FileFault::IsDisk,
@@ -611,6 +624,11 @@ const UNFIT: &[Told] = &[
     ),
     (
         "races d --from 2 --to 1",
+        JobFault::Range,
+        "--from is above --to: give another, or leave it out\nckrt: Range\n",
+    ),
+    (
+        "check d --from 2 --to 1",
         JobFault::Range,
         "--from is above --to: give another, or leave it out\nckrt: Range\n",
     ),
