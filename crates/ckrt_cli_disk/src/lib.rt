@@ -62,6 +62,7 @@ mod address;
 mod core_file;
 mod driving;
 mod feeding;
+mod fitting;
 mod image;
 mod laws;
 mod making;
