@@ -2,16 +2,18 @@
 use Rattle.std.proofs.Common.{◌≡◌, ◌⊎◌, inl, inr, ⊎_elim, ℕ, ◌+◌, ◌-◌, ◌≤◌, ◌<◌, ◌^◌, min, ◌&&◌, not, Bool, true, false, cond, nat_eq, nat_lt, List, [], ◌∷◌, ◌++◌, length, get_or, take, drop, Option, Some, None, lit<, refl, sym, ◌∙◌, ap, subst, arith}
 use Rattle.std.proofs.lemmas.Bool.{cases_lt}
 use Rattle.std.proofs.lemmas.Bool.Decides.{nat_tests}
+use Rattle.std.proofs.lemmas.Grind.{common_steps}
 use Rattle.std.proofs.lemmas.List.{get_or-take, get_or-drop, get_or_past}
 use Rattle.byteorder.specs.Endian.{little_bytes, little_number}
 use Rattle.ckrt_disk.specs.Disk.{IsImage, IsOverwritten, IsWithin, LeavesOnly}
-use Rattle.ckrt_disk.specs.Frame.{IsSameOutside, MayBeLeft, Nowhere, WritesWithin}
+use Rattle.ckrt_disk.specs.Frame.{IsOnlyRead, IsSameOutside, MayBeLeft, Nowhere, WritesWithin}
 use Rattle.ckrt_disk.specs.declared.disk.Disk.{Ghosts}
-use Rattle.ckrt_disk.proofs.Images.{get_part, length_part, part_same, wider_image, written_size, written_elsewhere, written_there}
+use Rattle.ckrt_disk.proofs.Images.{get_part, part_same, wider_image, written_size, written_elsewhere, written_there}
+use Rattle.ckrt_disk.proofs.FrameLemmas.{wider, writes_on_within}
 use Rattle.ckrt_disk.proofs.Moments.{goes_on, weaker}
 use Rattle.ckrt_stored.specs.AreaFields.{HasBytes}
 use Rattle.ckrt_stored.specs.Layout.{number_at}
-use Rattle.ckrt_stored.specs.Schedules.{IsNoting, NotesAt, is_first_used, mark_of, pick_of, place_of, schedule_at, schedule_by, schedule_bytes, schedule_of, seed_of, takes_notes}
+use Rattle.ckrt_stored.specs.Schedules.{IsNoting, NotesAt, is_first_used, mark_of, noted_after, pick_of, place_of, schedule_at, schedule_by, schedule_bytes, schedule_in, schedule_of, seed_of, takes_notes}
 use Rattle.ckrt_stored.specs.Superblock.{MAGIC, has_notes}
 use Rattle.ckrt_stored.specs.declared.schedule.ScheduleNote.{ScheduleNote}
 use Rattle.ckrt_stored.proofs.ByteLemmas.{number_is, part_in}
@@ -38,6 +40,33 @@ reads_back image at s some turn seed room has =
     ∙ ap (λ n. schedule_by s.turn n (number_at 8 (at + 16) p)) (number_is 8 (at + 8) 4096 (mark_of s.seed) image at 8 (schedule_bytes s) refl (omega (arith, room)) (omega arith) has refl (small_mark s.seed))
     ∙ ap (λ n. schedule_by s.turn (mark_of s.seed) n) (number_is 8 (at + 16) 4096 (seed_of s.seed) image at 16 (schedule_bytes s) refl (omega (arith, room)) (omega arith) has refl seed)
     ∙ by_seed s.turn s.seed some
+
+-- WHAT A PAGE SAYS OF ITS DISK
+
+is_long : (size : ℕ) (image : List ℕ) → length image ≡ size → 4096 ≤ size → nat_lt (length image) 4096 ≡ false
+is_long size image whole long = grind (arith, nat_tests, whole, long)
+
+pub of_page : (size : ℕ) (image page : List ℕ) → length image ≡ size → 4096 ≤ size → page ≡ take 4096 image → schedule_in page ≡ schedule_of image
+of_page size image page whole long is =
+    ap (λ (l : List ℕ). schedule_in l) is ∙ sym (ap (λ b. cond b None (schedule_in (take 4096 image))) (is_long size image whole long))
+
+pub takes_by_page : (size : ℕ) (image page : List ℕ) → length image ≡ size → 4096 ≤ size → page ≡ take 4096 image → takes_notes image ≡ has_notes page
+takes_by_page size image page whole long is =
+    ap (λ b. not b && has_notes (take 4096 image)) (is_long size image whole long) ∙ ap (λ (l : List ℕ). has_notes l) (sym is)
+
+-- where the disk takes no notes, or notes the schedule, it notes what it would after noting that
+noted_already : (b : Bool) (s : ScheduleNote) (image : List ℕ) → takes_notes image ≡ b → (takes_notes image ≡ false) ⊎ (schedule_of image ≡ Some s) → schedule_of image ≡ cond b (Some s) None
+noted_already true s image is (inl never) = let false_is : true ≡ false = sym is ∙ never in absurd (cc)
+noted_already true s image is (inr same) = same
+noted_already false s image is either = not_taken (nat_lt (length image) 4096) refl (has_notes (take 4096 image)) refl
+  where
+    not_taken : (a : Bool) → nat_lt (length image) 4096 ≡ a → (h : Bool) → has_notes (take 4096 image) ≡ h → schedule_of image ≡ None
+    not_taken true long h has = ap (λ b. cond b None (schedule_in (take 4096 image))) long
+    not_taken false long true has = let never : true ≡ false = sym (ap (λ b. not b && has_notes (take 4096 image)) long ∙ has) ∙ is in absurd (cc)
+    not_taken false long false has = ap (λ b. cond b None (schedule_in (take 4096 image))) long ∙ ap (λ b. cond b (schedule_at (place_of (is_first_used (take 4096 image))) (take 4096 image)) None) has
+
+pub already : (s : ScheduleNote) (old new : List ℕ) → new ≡ old → (takes_notes old ≡ false) ⊎ (schedule_of old ≡ Some s) → schedule_of new ≡ noted_after s old
+already s old new same either = ap schedule_of same ∙ noted_already (takes_notes old) s old refl either
 
 -- BYTES THAT STAY
 
@@ -100,6 +129,11 @@ pub still_takes : (before image : List ℕ) (region : ℕ → Type 0) → ((i : 
 still_takes before image region behind same =
     ap (λ n. not (nat_lt n 4096) && has_notes (take 4096 image)) same.size
     ∙ ap (λ b. not (nat_lt (length before) 4096) && b) (head_stays before image region same behind)
+
+-- writing the note that isn't in use leaves the head
+pub still_takes_noted : (old settled put : List ℕ) (first : Bool) → settled ≡ old → IsSameOutside (IsWithin (place_of first) 24) settled put → takes_notes old ≡ true → takes_notes put ≡ true
+still_takes_noted old settled put first same noted takes =
+    still_takes settled put (IsWithin (place_of first) 24) (λ i w. omega (arith, w.0, (place_room first).0)) noted ∙ (ap takes_notes same ∙ takes)
 
 which : (x first u : Bool) → first ≡ not u → (x ≡ first) ⊎ (x ≡ u)
 which true true u free = inl refl
@@ -187,29 +221,65 @@ module _ {D : Type 0} (d : Ghosts D) (s : ScheduleNote) where
           inr (⊎_elim (λ (was : schedule_of image ≡ schedule_of (d.content put)). inl (was ∙ stays_as (d.content put) at_put)) (λ is. inr is)
           (old_or_new (d.content put) image takes_there (alone _ put image settled left) first s free_there new))))
 
+module _ {D : Type 0} (d : Ghosts D) (s : ScheduleNote) where
+  -- so it is behind reads
+  pub behind_read : (old read new : D) → d.is_honest read → IsOnlyRead d old read false → (d.is_honest new → LeavesOnly d.moment d.left_since read new (IsNoting s d read)) → d.is_honest new → LeavesOnly d.moment d.left_since old new (IsNoting s d old)
+  behind_read old read new was reads noting honest =
+      let content = reads.content was in
+      goes_on d.moment d.left_since old read new _ (weaker d.moment d.left_since old read _ (IsNoting s d old) (reads.any_moment was) (λ image no. absurd no))
+      (weaker d.moment d.left_since read new _ (IsNoting s d old) (noting honest) (λ image left. ⊎_elim
+      (λ (may : MayBeLeft d read image). inl (record {
+        size = may.size ∙ ap length content;
+        same = λ i out. may.same i (λ is. out ((reads.pending was i).0 is)) ∙ ap (λ (l : List ℕ). get_or l i 0) content;
+      }))
+      (λ noted. inr (⊎_elim (λ (kept : schedule_of image ≡ schedule_of (d.content read)). inl (kept ∙ ap schedule_of content)) (λ is. inr is) noted)) left))
+
+-- the new note stands where it was written
+pub new_there : (before put bytes : List ℕ) (at : ℕ) (first : Bool) (s : ScheduleNote) → at ≡ place_of first → bytes ≡ schedule_bytes s → IsOverwritten before at bytes put → 4096 ≤ length before → 1 ≤ s.turn → s.turn < 256 ^ 8 → seed_of s.seed < 256 ^ 8
+    → schedule_at (place_of first) (take 4096 put) ≡ Some s
+new_there before put bytes at first s there is written long some turn seed =
+    let few : length (schedule_bytes s) ≡ 24 = omega arith in
+    let inside = (place_room first).1 in
+    let has : HasBytes put at bytes = written_there before at bytes put written (omega (arith, there, inside, ap length is, few, long)) in
+    reads_back put (place_of first) s some turn seed (omega (arith, inside)) (subst (λ n. HasBytes put n (schedule_bytes s)) there (subst (λ (l : List ℕ). HasBytes put at l) is has))
+
 -- WHERE IT WRITES
 
 note_inside : (b : Bool) (i : ℕ) → IsWithin (place_of b) 24 i → NotesAt i
 note_inside true i w = (omega (arith, w.0), omega (arith, w.1))
 note_inside false i w = (omega (arith, w.0), omega (arith, w.1))
 
-pub in_notes : (b : Bool) (at n : ℕ) → at ≡ place_of b → n ≡ 24 → (i : ℕ) → IsWithin at n i → NotesAt i
-in_notes b at n there long i w = note_inside b i (omega (arith, w.0, there), omega (arith, w.1, there, long))
+module _ {D : Type 0} (d : Ghosts D) where
+  pub as_note : (first : Bool) (at n : ℕ) (old new : D) (failed : Bool) → at ≡ place_of first → n ≡ 24 → WritesWithin d (IsWithin at n) 2 old new failed → WritesWithin d (IsWithin (place_of first) 24) 2 old new failed
+  as_note first at n old new failed there long = wider d (IsWithin at n) (IsWithin (place_of first) 24) 2 old new failed (λ i w. (omega (arith, w.0, there), omega (arith, w.1, there, long)))
+
+  pub first_call : (old mid : D) (failed : Bool) → WritesWithin d Nowhere 1 old mid failed → WritesWithin d NotesAt 1 old mid failed
+  first_call old mid failed = wider d Nowhere NotesAt 1 old mid failed (λ i no. absurd no)
+
+  pub then_note : (first : Bool) (old mid new : D) (failed : Bool) → WritesWithin d Nowhere 1 old mid false → WritesWithin d (IsWithin (place_of first) 24) 2 mid new failed → WritesWithin d NotesAt 3 old new failed
+  then_note first old mid new failed settled noted = writes_on_within d NotesAt (IsWithin (place_of first) 24) 1 2 old mid new failed (note_inside first) (first_call old mid false settled) noted
+
+  pub then_pick : (first : Bool) (old mid put new : D) (failed : Bool) → WritesWithin d Nowhere 1 old mid false → WritesWithin d (IsWithin (place_of first) 24) 2 mid put false → WritesWithin d (IsWithin 2048 1) 2 put new failed → WritesWithin d NotesAt 5 old new failed
+  then_pick first old mid put new failed settled noted picks =
+      writes_on_within d NotesAt (IsWithin 2048 1) 3 2 old put new failed (λ i w. (w.0, omega (arith, w.1))) (then_note first old mid put false settled noted) picks
 
 -- WHAT A DISK MIGHT HAVE LEFT BEFORE
 
+length_taken : (n at : ℕ) (c : List ℕ) → length (take n (drop at c)) ≡ min n (length c - at)
+length_taken n at c = grind (arith, common_steps)
+
 -- the same image with its own bytes where notes stand
 module _ (content image : List ℕ) (size : length image ≡ length content) (long : 2048 ≤ length image) where
-  part : List ℕ
+  abbrev part : List ℕ
   part = take 2048 (drop 2048 content)
 
   part_long : length part ≡ min 2048 (length content - 2048)
-  part_long = length_part 2048 2048 content
+  part_long = length_taken 2048 2048 content
 
   room : 2048 + length part ≤ length image
   room = omega (arith, part_long, size, long)
 
-  back : List ℕ
+  abbrev back : List ℕ
   back = take 2048 image ++ part ++ drop (2048 + length part) image
 
   written : IsOverwritten image 2048 part back
@@ -256,20 +326,26 @@ pub left_before : {D : Type 0} (d : Ghosts D) (old : D) (image : List ℕ) → I
 left_before d old image left = elim (cases_lt (length image) 2048) [
   | inl short ↦ record {
     was = image;
-    might = record { size = left.size; same = λ i durable. elim (cases_lt i 2048) [
-      | inl lt ↦ left.same i (λ either. ⊎_elim durable (λ (notes : NotesAt i). omega (arith, notes.0, lt)) either)
-      | inr past ↦ get_or_past image i 0 (omega (arith, short, past)) ∙ sym (get_or_past (d.content old) i 0 (omega (arith, left.size, short, past)))
-    ] };
+    might = record {
+      size = left.size;
+      same = λ i durable. elim (cases_lt i 2048) [
+        | inl lt ↦ left.same i (λ either. ⊎_elim durable (λ (notes : NotesAt i). omega (arith, notes.0, lt)) either)
+        | inr past ↦ get_or_past image i 0 (omega (arith, short, past)) ∙ sym (get_or_past (d.content old) i 0 (omega (arith, left.size, short, past)))
+      ];
+    };
     same = record { size = refl; same = λ i out. refl };
   }
   | inr long ↦
       (let content : List ℕ = d.content old in
       record {
         was = back content image left.size long;
-        might = record { size = back_size content image left.size long ∙ left.size; same = λ i durable. elim (notes_or_not i) [
-          | inl notes ↦ at_content content image left.size long i notes
-          | inr out ↦ back_elsewhere content image left.size long i (λ w. out (inside content image left.size long i w)) ∙ left.same i (λ either. ⊎_elim durable out either)
-        ] };
+        might = record {
+          size = back_size content image left.size long ∙ left.size;
+          same = λ i durable. elim (notes_or_not i) [
+            | inl notes ↦ at_content content image left.size long i notes
+            | inr out ↦ back_elsewhere content image left.size long i (λ w. out (inside content image left.size long i w)) ∙ left.same i (λ either. ⊎_elim durable out either)
+          ];
+        };
         same = record { size = sym (back_size content image left.size long); same = λ i out. sym (back_elsewhere content image left.size long i (λ w. out (inside content image left.size long i w))) };
       })
 ]

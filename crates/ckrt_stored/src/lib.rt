@@ -58,8 +58,9 @@ pub use filling::{SMALLEST_DISK, fill_up};
 pub use formatting::format;
 pub use header::Header;
 pub use laws::{
-    fieldless_bytes_are_free, images_recover_once, newest_area_takes_over, note_stands_in_the_superblock,
-    past_of_an_image_has_its_faults, spare_bytes_are_free, unused_area_is_free,
+    fieldless_bytes_are_free, images_recover_once, newest_area_takes_over,
+    note_stands_in_the_superblock, past_of_an_image_has_its_faults, spare_bytes_are_free,
+    unused_area_is_free,
 };
 pub use layout::{COUNT_LIMIT, FIELDS_AT, SUPERBLOCK_VERSION};
 pub use memory::restore_memory;

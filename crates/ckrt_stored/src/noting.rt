@@ -1,6 +1,6 @@
 //! Which schedule a disk notes, and how it comes to note another one.
-ghost use Rattle.std.specs.Prelude.{◌≡◌, ◌↔◌, ◌≤◌, IfOk, IfSome, IsTrue, OnOk, Some, is_err, not, take, true};
-ghost use Rattle.ckrt_disk.specs.Frame.{IsOnlyRead, WritesWithin};
+ghost use Rattle.std.specs.Prelude.{◌≡◌, ◌↔◌, ◌≤◌, ℕ, IfOk, IfSome, IsTrue, OnOk, Some, is_err, not, take, true};
+ghost use Rattle.ckrt_disk.specs.Frame.{IsOnlyRead, Nowhere, WritesWithin};
 ghost use Rattle.ckrt_stored.specs.Filling.{WritesOnly};
 ghost use Rattle.ckrt_stored.specs.Schedules.{IsFreeFor, LeavesNoting, NotesAt, is_first_used, noted_after, schedule_of, takes_notes};
 
@@ -33,10 +33,7 @@ fn is_same(schedule: Option<ScheduleNote>, other: &ScheduleNote) -> bool
 }
 
 /// Whether the first note is the one that isn't in use, if the disk takes notes and doesn't note this schedule already.
-fn free_note<D: Disk>(
-    disk: &mut D,
-    schedule: &ScheduleNote,
-) -> Result<Option<bool>, DeviceFault>
+fn free_note<D: Disk>(disk: &mut D, schedule: &ScheduleNote) -> Result<Option<bool>, DeviceFault>
     ensures read { IsOnlyRead D.Disk disk.old disk.new (is_err result) }
     ensures exact { IfOk result
         (λ free. D.is_honest disk.new → IsFreeFor schedule.now (D.content disk.old) free) }
@@ -51,6 +48,16 @@ fn free_note<D: Disk>(
         return Ok(None);
     }
     Ok(Some(!is_first_used(&page)))
+}
+
+/// Makes durable what was written before.
+fn settle<D: Disk>(disk: &mut D) -> Result<(), DeviceFault>
+    ensures within { WritesWithin D.Disk Nowhere 1 disk.old disk.new (is_err result) }
+    ensures content { OnOk result (D.is_honest disk.new → D.content disk.new ≡ D.content disk.old) }
+    ensures nothing_pending { OnOk result
+        (D.is_honest disk.new → (i : ℕ) → ¬ D.pending disk.new i) }
+{
+    disk.sync()
 }
 
 /// Writes a schedule into the first or the second note, and then puts that in use, each durably.
@@ -68,7 +75,7 @@ fn write_note<D: Disk>(
     ensures noted { OnOk result (D.is_honest disk.new → takes_notes (D.content disk.old) ≡ true
         → schedule_of (D.content disk.new) ≡ Some schedule.now) }
 {
-    disk.sync()?;
+    settle(disk)?;
     let bytes = schedule_bytes(schedule);
     write_synced(disk, place_of(is_first), bytes.as_slice())?;
     write_synced(disk, PICK_AT, &[pick_of(is_first)])
@@ -77,10 +84,7 @@ fn write_note<D: Disk>(
 /// Notes a schedule on a disk that takes notes, unless it notes that one already: syncs, writes it into the note that isn't in use, and
 /// then puts that in use. A stop at any moment leaves what a stop before might have left, or the schedule that was noted
 /// before, or this one. Nothing is written but where notes stand, which no recovery reads.
-pub fn note_schedule<D: Disk>(
-    disk: &mut D,
-    schedule: &ScheduleNote,
-) -> Result<(), DeviceFault>
+pub fn note_schedule<D: Disk>(disk: &mut D, schedule: &ScheduleNote) -> Result<(), DeviceFault>
     requires { 1 ≤ schedule.now.turn }
     ensures any_moment { LeavesNoting schedule.now D.Disk disk.old disk.new }
     ensures within { WritesOnly D.Disk NotesAt disk.old disk.new result }

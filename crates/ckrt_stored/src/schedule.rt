@@ -1,5 +1,5 @@
 //! The schedule that a disk notes, and the bytes of its notes.
-ghost use Rattle.std.specs.Prelude.{◌≡◌, ◌≤◌, ◌+◌, length};
+ghost use Rattle.std.specs.Prelude.{◌≡◌, ◌≤◌, ◌<◌, ◌+◌, ◌^◌, length};
 ghost use Rattle.ckrt_stored.specs.Schedules.{is_first_used, mark_of, pick_of, place_of, schedule_at, schedule_by, schedule_bytes, schedule_in, seed_of};
 
 use crate::blocks::has_notes;
@@ -107,7 +107,9 @@ fn seed_of(seed: Option<u64>) -> u64
 
 /// The bytes of a schedule's note.
 pub(crate) fn schedule_bytes(schedule: &ScheduleNote) -> ArrayVec<u8, 24>
-    ensures { result.items ≡ schedule_bytes schedule.now }
+    ensures bytes { result.items ≡ schedule_bytes schedule.now }
+    ensures turn { schedule.now.turn < 2 ^ 64 }
+    ensures seed { seed_of schedule.now.seed < 2 ^ 64 }
 {
     let mut bytes = ArrayVec::new();
     put(&mut bytes, &schedule.turn.to_le_bytes());
