@@ -322,8 +322,7 @@ to_readied p events limit short image ready to = record { recovered = to.recover
 
 fed_to_readied : (p : Program) (events : List Event) (limit : ℕ) (short image : List ℕ) → IsReadied short image → RecoversFed p events limit short → RecoversFed p events limit image
 fed_to_readied p events limit short image ready fed =
-    let longer : List ℕ = short ++ replicate ready.zeros 0 in
-    (
+    let longer : List ℕ = short ++ replicate ready.zeros 0 in (
       to_readied p events limit short image ready fed.0,
       fed_same longer image (no_fields longer image ready.same) events (fed_longer short (replicate ready.zeros 0) fed.0.recovered fed.0.recovers events fed.1),
     )
