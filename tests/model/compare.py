@@ -28,6 +28,7 @@ from cases.moved import MovedCase, difference_of_moved
 from cases.nested import NestedCase
 from cases.profiled import ProfilesCase, difference_of_profiles
 from cases.raced import RacedCase, difference_of_raced
+from cases.schedules import SchedulesCase, difference_of_schedules
 from cases.stepped import SteppedCase, difference_of_stepped
 from cases.streams import joined
 from cases.timed import TimedCase, difference_of_timed
@@ -336,7 +337,7 @@ OF_FOLDER = {
 OF_DISK_COUNTED = {LivesCase: difference_of_stops, TracedCase: difference_of_fate}
 OF_FOLDER_COUNTED = {
     Case: difference_of_lives, HaltsCase: difference_of_halts, InputsCase: difference_of_inputs, MixedCase: difference_of_mixed,
-    DrivesCase: difference_of_drives, ImagesCase: difference_of_images,
+    DrivesCase: difference_of_drives, ImagesCase: difference_of_images, SchedulesCase: difference_of_schedules,
 }
 
 
@@ -432,6 +433,7 @@ def words():
     parser.add_argument("--keys", action="store_true", help="the program has thread-specific keys and tables of version 2")
     parser.add_argument("--long-runs", action="store_true", help="the program has long runs, and all of --keys")
     parser.add_argument("--programs", action="store_true", help="the program's disks note their image, and it has all of --long-runs")
+    parser.add_argument("--schedules", action="store_true", help="the program's disks note the schedule of their drive, and it has all of --programs")
     chosen = parser.parse_args()
     chosen.kinds = chosen.kinds.split(",") if chosen.kinds else list(KINDS)
     unknown = set(chosen.kinds) - set(KINDS)
@@ -442,7 +444,8 @@ def words():
 
 def main():
     chosen = words()
-    SWITCHES.programs, SWITCHES.long_runs = chosen.programs, chosen.programs or chosen.long_runs
+    SWITCHES.schedules, SWITCHES.programs = chosen.schedules, chosen.schedules or chosen.programs
+    SWITCHES.long_runs = SWITCHES.programs or chosen.long_runs
     SWITCHES.keys = chosen.keys or SWITCHES.long_runs
     folder = Path(chosen.folder or tempfile.mkdtemp(prefix="compare-"))
     folder.mkdir(parents=True, exist_ok=True)

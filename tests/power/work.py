@@ -142,7 +142,7 @@ class Logged:
     def drive(self, name):
         """A drive with a rhythm drawn by lot, which ends by itself or is killed."""
         turn, rounds, events = (str(self.chance.choice(of)) for of in (self.place.turns, [1, 2, 8], self.place.events))
-        words = self.place.drive_words(name, "--turn", turn, "--rounds-per-commit", rounds, "--events", events)
+        words = self.place.drive_words(name, "--turn", turn, "--other-schedule", "--rounds-per-commit", rounds, "--events", events)
         status = self.live(name, words, calls=self.chance.choice(self.place.calls))
         if self.place.is_end(status) or status == ENOUGH and (self.place.folder / f"{name}.out").exists():
             self.note(f"kept {name} {(self.place.folder / f'{name}.out').stat().st_size}")
@@ -241,7 +241,7 @@ def format_again(place, name):
 
 def drive_again(place, name, chance):
     """Drives a disk behind a cut, to the end of its guest."""
-    rhythm = "--turn", str(chance.choice(place.turns_behind)), "--rounds-per-commit", str(chance.choice([3, 16]))
+    rhythm = "--turn", str(chance.choice(place.turns_behind)), "--other-schedule", "--rounds-per-commit", str(chance.choice([3, 16]))
     words = place.drive_words(name, *rhythm)
     done = said(words)
     if not place.is_end(done.returncode) or not done.stderr.startswith(b"ended: exit %d\n" % place.exit):

@@ -62,7 +62,7 @@ class Drives:
 
     def drive(self, *target):
         """One life: whether it came to its end, and what it printed. It raises Failure where it ended otherwise."""
-        rhythm = ["--turn", str(self.chance.choice(TURNS)), "--rounds-per-commit", str(self.chance.choice(ROUNDS))]
+        rhythm = ["--turn", str(self.chance.choice(TURNS)), "--other-schedule", "--rounds-per-commit", str(self.chance.choice(ROUNDS))]
         words = [self.ckrt, "drive", self.disk, *target, "--image", self.image, *self.options, *rhythm]
         end = lives.live(words, next(self.moments))
         if end.status is None:

@@ -8,11 +8,12 @@ mod giving;
 mod kept;
 mod rules;
 mod threads;
+mod words;
 
 use asked::{form_of, names_asked};
 use beside::{Beside, Refusal, Trouble, copy_of};
 use ckrt_cli::run_words;
-use ckrt_cli_files::{OutputReason, SystemSources, ToldWriter};
+use ckrt_cli_files::{OutputReason, ProgramWords, SystemSources, ToldWriter};
 use ckrt_cli_names::{Form, NamedWriter, Names};
 use ckrt_cli_reports::{SystemMeter, WrittenReport};
 use ckrt_cli_words::{Job, read_names, read_words};
@@ -27,15 +28,20 @@ use std::io::{self, ErrorKind, Write};
 use std::marker::Brand;
 use std::process::ExitCode;
 use threads::{tell_driven, tell_looked_at};
+use words::{
+    WrongWords, guest_arguments, guest_variables, job_words, names_with_words, program_words,
+    wrong_words,
+};
 
 /// How many bytes of reports are held, so that memory which is refused later takes none away. A job reports some lines.
 const REPORT_ROOM: usize = 65_536;
 
-/// What a job is done with: its words, a place for why an output failed, where it is known the job, and the rules by which it finds
-/// callers.
+/// What a job is done with: its words, those that its program gets, a place for why an output failed, where it is known the job, and the
+/// rules by which it finds callers.
 #[derive(Clone, Copy)]
 struct Task<'a, 'j> {
     words: &'a [&'a str],
+    program: Option<ProgramWords<'a>>,
     why: &'a Cell<OutputReason>,
     job: Option<&'j Job<'a>>,
     rules: &'j [Rule],
@@ -81,11 +87,12 @@ fn run<'a>(
     let named = NamedWriter::in_form(rt.alloc(), printed, form, told);
     let mut writer = KeptWriter::new(rt, task.why, again, named);
     let mut reporter = WrittenReport::new(room);
+    let sources = SystemSources::new(rt, task.why, Calls::new());
     let status = run_words::<HostRuntime, Brand, _, _, _, _>(
         rt.alloc(),
         task.words,
         task.rules,
-        &mut SystemSources::new(rt, task.why, Calls::new()),
+        &mut sources.with_words(rt.alloc(), task.program),
         &mut rt.reader(),
         &mut writer,
         &mut reporter,
@@ -96,16 +103,10 @@ fn run<'a>(
     status
 }
 
-/// The job of these words, without names.
-fn run_plain<'a>(rt: &'a HostRuntime, words: &'a [&'a str], why: &'a Cell<OutputReason>) -> u8 {
+/// A task without names.
+fn run_plain<'a>(rt: &'a HostRuntime, task: Task<'a, '_>) -> u8 {
     let alloc = rt.alloc();
     let printed = (Names::none(alloc), Form::Notes);
-    let task = Task {
-        words,
-        why,
-        job: None,
-        rules: &[],
-    };
     run(rt, task, printed, Names::none(alloc))
 }
 
@@ -124,21 +125,15 @@ fn refuse_memory(rt: &HostRuntime) -> u8 {
     1
 }
 
-/// The job of these words, with the names beside its files, which what it makes gets too. Where memory is refused it makes none.
-fn run_with<'a>(
-    rt: &'a HostRuntime,
-    words: &'a [&'a str],
-    why: &'a Cell<OutputReason>,
-    job: &Job<'a>,
-    names: Beside<'a>,
-) -> u8 {
+/// A job, with the names beside its files, which what it makes gets too. Where memory is refused it makes none.
+fn run_with<'a>(rt: &'a HostRuntime, task: Task<'a, '_>, job: &Job<'a>, names: Beside<'a>) -> u8 {
     let Beside {
         mut printed,
         reported,
         unused,
         gift,
     } = names;
-    let _ = tell_looked_at(rt, why, job, &mut printed);
+    let _ = tell_looked_at(rt, task.why, job, &mut printed);
     if let Some(Refusal { path, trouble }) = unused {
         let text = trouble.text();
         let _ = eprintln!(rt; "the names {path}.names: {text}; this goes on without them");
@@ -146,15 +141,18 @@ fn run_with<'a>(
     let Ok(rules) = rules_for(rt.alloc(), job, &printed) else {
         return refuse_memory(rt);
     };
-    let giving = match gift {
-        Some(bytes) => Giving::begin(rt, rt.alloc(), job, bytes).ok(),
-        None => None,
+    let giving = match (gift, task.program) {
+        (Some(bytes), Some(words)) => {
+            let bytes = names_with_words(rt, rt.alloc(), job, &words, bytes);
+            Giving::begin(rt, rt.alloc(), job, bytes).ok()
+        }
+        (Some(bytes), None) => Giving::begin(rt, rt.alloc(), job, bytes).ok(),
+        (None, _) => None,
     };
     let task = Task {
-        words,
-        why,
         job: Some(job),
         rules: rules.as_slice(),
+        ..task
     };
     let status = run(rt, task, (printed, form_of(job)), reported);
     if let Some(giving) = giving {
@@ -171,75 +169,94 @@ fn refuse_asked(rt: &HostRuntime, path: &str, trouble: Trouble) -> u8 {
     1
 }
 
-/// The job of these words, with the names of a file in place of those beside its files.
-fn run_asked<'a>(
-    rt: &'a HostRuntime,
-    words: &'a [&'a str],
-    why: &'a Cell<OutputReason>,
-    job: &Job<'a>,
-    path: &str,
-) -> u8 {
+/// A job, with the names of a file in place of those beside its files.
+fn run_asked<'a>(rt: &'a HostRuntime, task: Task<'a, '_>, job: &Job<'a>, path: &str) -> u8 {
     match names_asked(rt, rt.alloc(), job, path) {
-        Ok(names) => run_with(rt, words, why, job, names),
+        Ok(names) => run_with(rt, task, job, names),
         Err(trouble) => refuse_asked(rt, path, trouble),
     }
 }
 
-/// Whether words give variables for a guest.
-fn give_variables(words: &[&str]) -> bool {
-    words.iter().any(|word| word.starts_with("--env"))
-}
-
-/// Says that no job takes variables for a guest; the answer is the program's status.
-fn refuse_variables(rt: &HostRuntime) -> u8 {
-    let _ = eprintln!(rt;
-        "error: --env isn't taken here: give it to guest/image, which puts it into the image"
-    );
-    2
-}
-
-/// The job of these words, where its names can be used.
-fn run_named<'a>(rt: &'a HostRuntime, words: &'a [&'a str], why: &'a Cell<OutputReason>) -> u8 {
-    if give_variables(words) {
-        return refuse_variables(rt);
-    }
-    let Ok(job) = read_words(rt.alloc(), words) else {
-        return run_plain(rt, words, why);
-    };
-    match read_names(rt.alloc(), words) {
-        Ok(Some(path)) => return run_asked(rt, words, why, &job, path),
+/// A job, where its names can be used.
+fn run_named<'a>(rt: &'a HostRuntime, task: Task<'a, '_>, job: &Job<'a>) -> u8 {
+    match read_names(rt.alloc(), task.words) {
+        Ok(Some(path)) => return run_asked(rt, task, job, path),
         Ok(None) => {}
         Err(_) => return refuse_asked(rt, "FILE", Trouble::OutOfMemory),
     }
-    match beside::before(rt, rt.alloc(), &job) {
-        Ok(names) => run_with(rt, words, why, &job, names),
+    match beside::before(rt, rt.alloc(), job) {
+        Ok(names) => run_with(rt, task, job, names),
         Err(refusal) => refuse(rt, refusal),
+    }
+}
+
+/// Says what is wrong with the words for a program; the answer is the program's status.
+fn refuse_words(rt: &HostRuntime, wrong: WrongWords<'_>) -> u8 {
+    let _ = match wrong {
+        WrongWords::NotAVariable(text) => {
+            eprintln!(rt; "error: --env '{text}' isn't NAME=VALUE")
+        }
+        WrongWords::NoImage => {
+            eprintln!(rt; "error: words after -- and --env go into an image: give it by --image")
+        }
+    };
+    2
+}
+
+/// The words of a job, with those for its guest.
+fn run_given<'a>(
+    rt: &'a HostRuntime,
+    words: &'a [&'a str],
+    arguments: &'a [&'a str],
+    variables: &'a [&'a str],
+    why: &'a Cell<OutputReason>,
+) -> u8 {
+    let task = Task {
+        words,
+        program: program_words(arguments, variables),
+        why,
+        job: None,
+        rules: &[],
+    };
+    let Ok(job) = read_words(rt.alloc(), words) else {
+        return run_plain(rt, task);
+    };
+    match wrong_words(task.program, &job) {
+        Some(wrong) => refuse_words(rt, wrong),
+        None => run_named(rt, task, &job),
     }
 }
 
 /// The job of the arguments after the program's name.
 fn run_arguments(rt: &HostRuntime) -> io::Result<u8> {
     let arguments: Vec<String> = env::args(rt)?.collect(rt.alloc())?;
-    let words: Vec<&str> = arguments
-        .iter()
-        .skip(1)
-        .map(|word| word.as_str())
-        .collect(rt.alloc())?;
+    let words = job_words(rt.alloc(), arguments.as_slice())?;
+    let given = guest_arguments(rt.alloc(), arguments.as_slice())?;
+    let variables = guest_variables(rt.alloc(), arguments.as_slice())?;
     let why = Cell::new(OutputReason::Other);
-    Ok(run_named(rt, &words, &why))
+    Ok(run_given(rt, &words, &given, &variables, &why))
+}
+
+/// How the program is used; the answer is its status.
+fn show_usage<'a>(rt: &'a HostRuntime, words: &'a [&'a str], why: &'a Cell<OutputReason>) -> u8 {
+    let task = Task {
+        words,
+        program: None,
+        why,
+        job: None,
+        rules: &[],
+    };
+    run_plain(rt, task)
 }
 
 fn main(rt: HostRuntime) -> ExitCode {
     match run_arguments(&rt) {
         Ok(status) => ExitCode::from(status),
-        Err(error) if error.kind() == ErrorKind::OutOfMemory => {
-            let _ = eprintln!(rt; "the system refused memory\nckrt: OutOfMemory");
-            ExitCode::FAILURE
-        }
+        Err(error) if error.kind() == ErrorKind::OutOfMemory => ExitCode::from(refuse_memory(&rt)),
         Err(_) => {
             let _ = eprintln!(rt; "error: an argument isn't text\n");
             let why = Cell::new(OutputReason::Other);
-            ExitCode::from(run_plain(&rt, &["--help"], &why))
+            ExitCode::from(show_usage(&rt, &["--help"], &why))
         }
     }
 }

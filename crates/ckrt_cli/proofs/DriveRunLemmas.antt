@@ -1,5 +1,5 @@
 -- Runs of the program.
-use Rattle.std.proofs.Common.{◌≡◌, inl, inr, ℕ, ◌-◌, ◌^◌, Bool, true, false, List, length, if◌then◌else◌, Option, Some, None, Result, Ok, Err, sym, ◌∙◌, ap, subst}
+use Rattle.std.proofs.Common.{◌≡◌, inl, inr, ℕ, ◌-◌, ◌^◌, Bool, true, false, List, length, if◌then◌else◌, Option, Some, None, Result, Ok, Err, refl, sym, ◌∙◌, ap, subst}
 use Rattle.std.specs.Prelude.{IfOk, IfSome, nat_le}
 use Rattle.ckrt_disk.specs.declared.disk.Disk.{Ghosts}
 use Rattle.ckrt_drive.specs.Runs.{IsAtEnd, IsWhyNoMore, Stand, stand_of}
@@ -23,7 +23,10 @@ use Rattle.ckrt_drive.specs.declared.offset_fault.OffsetFault.{OffsetFault}
 use Rattle.ckrt_drive.specs.declared.offset_fault.OffsetFault.TheVariants.{Unrecovered, NotRecorded}
 use Rattle.ckrt_cli.specs.Runs.{IsRun, ProgramRun, TellsAsBefore, TellsIfLonger, drive_of, way_of_run}
 use Rattle.ckrt_drive_theorem.specs.Drives.{IsToldByRecord}
+use Rattle.ckrt_cli_disk.specs.Noting.{Notes}
+use Rattle.ckrt_stored.specs.declared.schedule.ScheduleNote.{ScheduleNote}
 use Rattle.ckrt_drive_theorem.proofs.DriveLemmas.{disk_honest}
+use Rattle.ckrt_drive_theorem.proofs.LengtheningLemmas.{no_fields, tells_same}
 
 -- IT IS A DRIVE
 
@@ -112,10 +115,11 @@ module _ {D : Type 0} (d : Ghosts D) (gives : Gives D) (from : Option ℕ) where
   told_way options start (Some x) None it is tells = tt
   told_way options start (Some x) (Some end) it is tells = let same : it ≡ x = cc in (from, tells ∙ ap (λ (q : Intake D). Ok (Some q.taken)) same)
 
-  pub told_by_record : {O : Type 0} (o : Ghosts O) (r : ProgramRun d o) (found : D) (path : List ℕ) (old new : Openings D) → TellsIfLonger d old new r.start → SuppliesFrom d gives path from found old new (Ok (record { disk = r.start; intake = r.intake })) → IsRecovered d r.start r.before
-      → d.is_honest r.after.disk → (at : Stage d o) → IsToldByRecord (drive_of r at)
-  told_by_record o r found path old new law supplies recovered honest at =
+  pub told_by_record : {O : Type 0} (o : Ghosts O) (r : ProgramRun d o) (found supplied : D) (path : List ℕ) (old new : Openings D) (schedule : ScheduleNote) → TellsIfLonger d old new supplied → SuppliesFrom d gives path from found old new (Ok (record { disk = supplied; intake = r.intake }))
+      → Notes d schedule supplied r.start (Ok tt) → IsRecovered d r.start r.before → d.is_honest r.after.disk → (at : Stage d o) → IsToldByRecord (drive_of r at)
+  told_by_record o r found supplied path old new schedule law supplies notes recovered honest at =
       let v = drive_of r at in
       let fine = recovered.disk.same.honest (disk_honest d o v.options v.stages v.first v.last r.drives.by_steps.goes honest) in
-      let it = with_taken (record { disk = r.start; intake = r.intake }) path found supplies.disk old new supplies.taken supplies.looks supplies.ends law fine in
-      told_way r.options r.start r.intake r.input it.it it.is it.tells
+      let it = with_taken (record { disk = supplied; intake = r.intake }) path found supplies.disk old new supplies.taken supplies.looks supplies.ends law (notes.within.same.honest fine) in
+      told_way r.options r.start r.intake r.input it.it it.is
+      (tells_same (d.content supplied) (d.content r.start) (no_fields (d.content supplied) (d.content r.start) (notes.within.content refl fine)) from ∙ it.tells)

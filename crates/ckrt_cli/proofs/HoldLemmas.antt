@@ -27,11 +27,11 @@ use Rattle.ckrt_drive_theorem.specs.Together.{Past, StandsFed}
 use Rattle.ckrt_drive_theorem.proofs.ByPlanLemmas.{end_unbroken, list_by_plan}
 use Rattle.ckrt_drive_theorem.proofs.DriveLemmas.{disk_honest, drive_keeps}
 use Rattle.ckrt_drive_theorem.proofs.FedLemmas.{drive_given, gives, is_told}
-use Rattle.ckrt_drive_theorem.proofs.LengtheningLemmas.{tells_longer}
+use Rattle.ckrt_drive_theorem.proofs.LengtheningLemmas.{tells_longer, zeros_only}
 use Rattle.ckrt_cli.proofs.DriveRunLemmas.{is_run, told_by_record}
 use Rattle.ckrt_cli.specs.Promise.{Common, Drove, HasSchedule, Holds, IsAsBefore, IsKept, as_drive}
 use Rattle.ckrt_cli.proofs.LongLemmas.{long_as_all}
-use Rattle.ckrt_cli.proofs.SupplyLemmas.{Reaches, Stands, by_input, by_reads, by_zeros}
+use Rattle.ckrt_cli.proofs.SupplyLemmas.{Reaches, Stands, by_input, by_notes, by_reads, by_zeros}
 
 -- WHAT IT WAS TOLD
 
@@ -89,28 +89,35 @@ module _ {D : Type 0} (d : Ghosts D) (law : (disk : D) (image : List ℕ) → d.
     found : Stands d h c.file x.came.run.output x.came.found
     found = subst (λ o. Stands d h c.file o x.came.found) (sym kept.found_output) (subst (Stands d h c.file output) (sym kept.found_disk) before.stands)
 
-    -- the disk as it is recovered, and the one that was made longer for it
-    reaches : Reaches d h c.file x.came.run.output x.came.before x.came.asked x.came.run.start
-    reaches = by_input d h c.file x.came.run.output sources (record { disk = x.came.run.start; intake = x.came.run.intake }) j.input j.input_from x.came.looked x.came.before x.came.asked x.came.supplies kept.longer fine
+    -- the disk as it is supplied, and the one that was made longer for it
+    fine_supplied : d.is_honest x.came.supplied
+    fine_supplied = x.came.notes.within.same.honest fine
+
+    reaches : Reaches d h c.file x.came.run.output x.came.before x.came.asked x.came.supplied
+    reaches = by_input d h c.file x.came.run.output sources (record { disk = x.came.supplied; intake = x.came.run.intake }) j.input j.input_from x.came.looked x.came.before x.came.asked x.came.supplies kept.longer fine_supplied
         (λ whole. by_reads d h c.file x.came.run.output x.came.found x.came.looked _ x.came.sized whole found)
 
+    -- and as it is recovered, with its schedule
+    stands_there : Stands d h c.file x.came.run.output x.came.run.start
+    stands_there = by_notes d h c.file x.came.run.output _ x.came.supplied x.came.run.start x.came.notes fine reaches.stands
+
     -- so it tells as before where it was made longer, with an input
-    tells : (bytes : List ℕ) → c.file ≡ Some bytes → TellsIfLonger d x.came.before x.came.asked x.came.run.start
+    tells : (bytes : List ℕ) → c.file ≡ Some bytes → TellsIfLonger d x.came.before x.came.asked x.came.supplied
     tells bytes some looked more =
         let zeros = kept.longer looked more in
         record {
           honest = λ _. zeros.honest;
-          told = λ said. tells_longer d reads h bytes looked x.came.run.start zeros.honest (subst (λ f. StandsFed d f h looked) some (reaches.longer looked more).fed) zeros.reads said;
+          told = λ said. tells_longer d reads h bytes looked x.came.supplied zeros.honest (subst (λ f. StandsFed d f h looked) some (reaches.longer looked more).fed) (zeros_only (d.content looked) (d.content x.came.supplied) zeros.reads) said;
         }
 
-    told_by : (input : Option (List ℕ)) → Supplies d sources input j.input_from x.came.looked x.came.before x.came.asked (Ok (record { disk = x.came.run.start; intake = x.came.run.intake })) → (f : Option (List ℕ)) → c.file ≡ f → IsToldByRecord v
+    told_by : (input : Option (List ℕ)) → Supplies d sources input j.input_from x.came.looked x.came.before x.came.asked (Ok (record { disk = x.came.supplied; intake = x.came.run.intake })) → (f : Option (List ℕ)) → c.file ≡ f → IsToldByRecord v
     told_by None supplies f some =
-        let same : ◌≡◌ {A = Result (Supplied D) JobFault} (Ok (record { disk = x.came.run.start; intake = x.came.run.intake })) (Ok (record { disk = x.came.looked; intake = None })) = supplies.0 in
-        let whole : ◌≡◌ {A = Supplied D} (record { disk = x.came.run.start; intake = x.came.run.intake }) (record { disk = x.came.looked; intake = None }) = cc in
+        let same : ◌≡◌ {A = Result (Supplied D) JobFault} (Ok (record { disk = x.came.supplied; intake = x.came.run.intake })) (Ok (record { disk = x.came.looked; intake = None })) = supplies.0 in
+        let whole : ◌≡◌ {A = Supplied D} (record { disk = x.came.supplied; intake = x.came.run.intake }) (record { disk = x.came.looked; intake = None }) = cc in
         unfed_told d x.came.run.options x.came.run.start x.came.run.intake x.came.run.input (ap (λ (q : Supplied D). q.intake) whole)
     told_by (Some name) supplies None none =
         subst (λ (f : Option (List ℕ)). IfSome f (λ bytes. (said : Option ℕ) × (offset_from said (d.content x.came.run.start) ≡ Ok (Some (way_of_run x.came.run).taken)))) (sym (kept.same_input ∙ none)) tt
-    told_by (Some name) supplies (Some bytes) some = told_by_record d sources j.input_from d x.came.run x.came.looked name x.came.before x.came.asked (tells bytes some) supplies x.came.recovered kept.disk_honest x.at
+    told_by (Some name) supplies (Some bytes) some = told_by_record d sources j.input_from d x.came.run x.came.looked x.came.supplied name x.came.before x.came.asked _ (tells bytes some) supplies x.came.notes x.came.recovered kept.disk_honest x.at
 
     by_record : IsToldByRecord v
     by_record = told_by j.input x.came.supplies c.file refl
@@ -119,10 +126,10 @@ module _ {D : Type 0} (d : Ghosts D) (law : (disk : D) (image : List ℕ) → d.
     run = is_run d d x.came.run x.came.recovered kept.disk_honest kept.output_honest kept.input_honest
 
     keeps : Keeps h v
-    keeps = drive_keeps d d h.program h.old law law h.acknowledged h.accepted v reaches.stands.together (run.is x.at)
+    keeps = drive_keeps d d h.program h.old law law h.acknowledged h.accepted v stands_there.together (run.is x.at)
 
     fed_there : StandsFed d v.file h v.start
-    fed_there = subst (λ f. StandsFed d f h v.start) (sym kept.same_input) reaches.stands.fed
+    fed_there = subst (λ f. StandsFed d f h v.start) (sym kept.same_input) stands_there.fed
 
     told : IsTold v.file v.first.taken keeps.opened
     told = is_told h v keeps fed_there by_record

@@ -4,6 +4,9 @@ use Rattle.std.specs.Prelude.{slice_index}
 use Rattle.ckrt_disk.specs.Frame.{IsOnlyRead, MayBeLeft}
 use Rattle.ckrt_disk.specs.declared.disk.Disk.{Ghosts}
 use Rattle.ckrt_stored.specs.declared.fault.RecoverFault.{RecoverFault}
+use Rattle.ckrt_stored.specs.declared.schedule.ScheduleNote.{ScheduleNote}
+use Rattle.ckrt_stored.proofs.ScheduleLemmas.{left_before}
+use Rattle.ckrt_cli_disk.specs.Noting.{Notes}
 use Rattle.ckrt_cli_disk.specs.Feeding.{EndsWithRoom, Supplies, SuppliesOpened, SuppliesRoomy, SuppliesTaken}
 use Rattle.ckrt_cli_disk.specs.declared.feeding.Intake.{Intake}
 use Rattle.ckrt_cli_disk.specs.declared.feeding.Supplied.{Supplied}
@@ -14,7 +17,7 @@ use Rattle.ckrt_cli_files.specs.Openings.{Openings}
 use Rattle.ckrt_cli_files.specs.Sources.{Gives}
 use Rattle.ckrt_drive_theorem.specs.Lengthening.{IsLengthened}
 use Rattle.ckrt_drive_theorem.specs.Together.{Past, StandTogether, StandsFed}
-use Rattle.ckrt_drive_theorem.proofs.LengtheningLemmas.{keeps_longer}
+use Rattle.ckrt_drive_theorem.proofs.LengtheningLemmas.{AreReadied, fed_stands_readied, keeps_longer, noted_only, stands_readied}
 use Rattle.ckrt_cli.specs.Promise.{HasZerosBehind}
 
 no_more : {D : Type 0} (x : D) (xs ys : List D) → ys ≡ xs → ys ≡ x ∷ xs → ⊥
@@ -46,6 +49,17 @@ module _ {D : Type 0} (d : Ghosts D) (h : Past) (file : Option (List ℕ)) (out 
   -- and one that was made longer
   pub by_zeros : (a b : D) → IsLengthened d a b → Stands a → Stands b
   by_zeros a b left stands = let both = keeps_longer d d h file a b out left stands.together stands.fed in record { together = both.0; fed = both.1 }
+
+  -- and one on which a schedule was noted
+  pub by_notes : (schedule : ScheduleNote) (a b : D) → Notes d schedule a b (Ok tt) → d.is_honest b → Stands a → Stands b
+  by_notes schedule a b notes honest stands =
+      let are : AreReadied d a b = λ image may.
+      let was = left_before d a image (record {
+        size = may.size ∙ (notes.within.torn honest).size;
+        same = λ i out. may.same i (λ is. out (notes.within.pending honest i is)) ∙ (notes.within.torn honest).same i out;
+      }) in
+      (was.was, was.might, noted_only was.was image was.same) in
+      record { together = stands_readied d d h a b out are stands.together; fed = fed_stands_readied d d h file a b are stands.fed }
 
   -- WITH ITS INPUT
 

@@ -1,15 +1,15 @@
 -- How the job of a drive comes to its drive, of a disk onto the file of an output: by what is said of the job.
 use Rattle.std.proofs.Common.{inl, inr, subst, refl}
 use Rattle.std.specs.Prelude.{◌≡◌, ℕ, Bool, true, false, List, Option, Some, None, Result, Ok, Err, is_err}
-use Rattle.ckrt_stored.specs.declared.config.Config.{Config}
 use Rattle.ckrt_disk.specs.Frame.{IsOnlyRead}
 use Rattle.ckrt_disk.specs.declared.disk.DeviceFault.{DeviceFault}
 use Rattle.ckrt_disk.specs.declared.disk.Disk.{Ghosts}
 use Rattle.ckrt_drive.specs.declared.options.Options.{Options}
 use Rattle.ckrt_cli_words.specs.Jobs.{Driving}
-use Rattle.ckrt_cli_disk.specs.Driving.{DrivesFound, DrivesInRange, DrivesInto, DrivesLooked, DrivesOpened, DrivesOpenedOutput, DrivesPath, DrivesSupplied, DrivesToward, IsAsked, Means, Setting, ready, setting_of}
+use Rattle.ckrt_cli_disk.specs.Driving.{DrivesBehindNote, DrivesFound, DrivesInRange, DrivesInto, DrivesLooked, DrivesOpened, DrivesOpenedOutput, DrivesPath, DrivesSupplied, DrivesToward, IsAsked, Means, Setting, ready, setting_of}
 use Rattle.ckrt_recovery.specs.Recovered.{IsRecovered}
 use Rattle.ckrt_cli_disk.specs.Feeding.{Supplies}
+use Rattle.ckrt_cli_disk.specs.Noting.{Notes, asked_schedule}
 use Rattle.ckrt_cli_disk.specs.declared.feeding.Supplied.{Supplied}
 use Rattle.ckrt_cli_files.specs.Openings.{Openings, opened, with_output}
 use Rattle.ckrt_cli_files.specs.Sources.{Gives}
@@ -24,7 +24,7 @@ use Rattle.ckrt_recovery.specs.declared.session.Session.{Session}
 -- A job came to its drive, onto the output of this path.
 pub record Came {D : Type 0} (d : Ghosts D) (gives : Gives D) (j : Driving) (path : List ℕ)
     : Type 0 where
-  -- the disk that it came by, and that disk once its sizes were read
+  -- the disk that it came by, and that disk once its sizes and its schedule were read
   pub found : D
   pub looked : D
   pub sized : IsOnlyRead d found looked false
@@ -33,8 +33,11 @@ pub record Came {D : Type 0} (d : Ghosts D) (gives : Gives D) (j : Driving) (pat
   pub asks : IsAsked j run.options
   pub before : Openings D
   pub asked : Openings D
+  pub supplied : D
   pub supplies : Supplies d gives j.input j.input_from looked before asked
-      (Ok (record { disk = run.start; intake = run.intake }))
+      (Ok (record { disk = supplied; intake = run.intake }))
+  -- once the schedule of the words was noted on it
+  pub notes : Notes d (asked_schedule j) supplied run.start (Ok tt)
   -- it began with what that disk recovers to
   pub recovered : IsRecovered d run.start run.before
   -- and with this output, whose length fits it
@@ -45,7 +48,7 @@ pub record Came {D : Type 0} (d : Ghosts D) (gives : Gives D) (j : Driving) (pat
 
 -- FROM A JOB TO ITS DRIVE
 
--- Before that: a disk was found, and has the sizes of the words, with whose options it is to be driven.
+-- Before that: a disk was found, and has the sizes and the schedule of the words, with whose options it is to be driven.
 pub record Sized {D : Type 0} (d : Ghosts D) (j : Driving) : Type 0 where
   pub options : Options
   pub asks : IsAsked j options
@@ -60,6 +63,14 @@ pub record Fed {D : Type 0} (d : Ghosts D) (gives : Gives D) (j : Driving) : Typ
   pub asked : Openings D
   pub it : Supplied D
   pub supplies : Supplies d gives j.input j.input_from sized.looked before asked (Ok it)
+  -- and notes the schedule of the words
+  pub disk : D
+  pub notes : Notes d (asked_schedule j) it.disk disk (Ok tt)
+
+-- that disk, with the input
+abbrev pub noted : {D : Type 0} {d : Ghosts D} {gives : Gives D} {j : Driving} → Fed d gives j
+    → Supplied D
+noted fed = record { disk = fed.disk; intake = fed.it.intake }
 
 -- where a job of these words has come to its drive, that, by what is said of it; none where it ended before
 module _ {D W : Type 0} {d : Ghosts D} (means : Means d W) (j : Driving) (path : List ℕ)
@@ -72,7 +83,7 @@ module _ {D W : Type 0} {d : Ghosts D} (means : Means d W) (j : Driving) (path :
 
   -- of a disk that was supplied
   module _ (fed : Fed d means.sources j) (new : Openings D) where
-    abbrev pub onto_fitting : (session : Session D d) → IsRecovered d fed.it.disk session
+    abbrev pub onto_fitting : (session : Session D d) → IsRecovered d fed.disk session
         → (output : OpenedOutput D) → means.sources.Outputs path output
         → DrivesOpenedOutput output fed.sized.options (ready session fed.it.intake)
         (with_output fed.asked (opened path)) new result
@@ -83,7 +94,7 @@ module _ {D W : Type 0} {d : Ghosts D} (means : Means d W) (j : Driving) (path :
       looked = fed.sized.looked;
       sized = fed.sized.sized;
       run = record {
-        start = fed.it.disk;
+        start = fed.disk;
         options = fed.sized.options;
         intake = fed.it.intake;
         input = takes.drives.input;
@@ -97,7 +108,9 @@ module _ {D W : Type 0} {d : Ghosts D} (means : Means d W) (j : Driving) (path :
       asks = fed.sized.asks;
       before = fed.before;
       asked = fed.asked;
+      supplied = fed.it.disk;
       supplies = fed.supplies;
+      notes = fed.notes;
       recovered = recovered;
       output = output;
       is_opened = is_opened;
@@ -105,7 +118,7 @@ module _ {D W : Type 0} {d : Ghosts D} (means : Means d W) (j : Driving) (path :
       fit = takes.fit;
     })
 
-    abbrev pub onto_opened : (session : Session D d) → IsRecovered d fed.it.disk session
+    abbrev pub onto_opened : (session : Session D d) → IsRecovered d fed.disk session
         → DrivesInto (means.sources.Outputs path) path fed.sized.options
         (ready session fed.it.intake) fed.asked new result
         → Comes
@@ -113,7 +126,7 @@ module _ {D W : Type 0} {d : Ghosts D} (means : Means d W) (j : Driving) (path :
     onto_opened session recovered (inr opens) =
         onto_fitting session recovered opens.output opens.is_opened opens.drives
 
-    abbrev pub of_fed : DrivesOpened (set fed.sized.options) fed.it fed.asked new result → Comes
+    abbrev pub of_fed : DrivesOpened (set fed.sized.options) (noted fed) fed.asked new result → Comes
     of_fed (inl lacks) = None
     of_fed (inr drives) =
         onto_opened drives.session drives.recovered
@@ -122,20 +135,40 @@ module _ {D W : Type 0} {d : Ghosts D} (means : Means d W) (j : Driving) (path :
         result)
         named drives.drives)
 
-  -- of one that has its sizes
+  -- of one that has its input
+  abbrev pub of_noted : (sized : Sized d j) → (before asked new : Openings D) → (it : Supplied D)
+      → Supplies d means.sources j.input j.input_from sized.looked before asked (Ok it)
+      → (disk : D) → (answer : Result (Unit {0}) DeviceFault)
+      → Notes d (asked_schedule j) it.disk disk answer
+      → DrivesBehindNote (set sized.options) (record { disk = disk; intake = it.intake }) asked new
+      result answer
+      → Comes
+  of_noted sized before asked new it supplies disk (Err failed) notes ends = None
+  of_noted sized before asked new it supplies disk (Ok done) notes ends =
+      of_fed
+      (record {
+        sized = sized;
+        before = before;
+        asked = asked;
+        it = it;
+        supplies = supplies;
+        disk = disk;
+        notes = notes;
+      })
+      new ends
+
+  -- of one that fits the words
   abbrev pub of_sized : (sized : Sized d j) → (before asked new : Openings D)
       → (got : Result (Supplied D) JobFault)
       → Supplies d means.sources j.input j.input_from sized.looked before asked got
       → DrivesSupplied (set sized.options) asked new result got → Comes
   of_sized sized before asked new (Err fault) supplies ends = None
   of_sized sized before asked new (Ok it) supplies ends =
-      of_fed
-      (record { sized = sized; before = before; asked = asked; it = it; supplies = supplies }) new
-      ends
+      of_noted sized before asked new it supplies ends.disk ends.answer ends.notes ends.drives
 
   -- of one that was found
   module _ (options : Options) (asks : IsAsked j options) (found looked : D) where
-    abbrev pub of_looked : (old new : Openings D) → (other : Result (Option Config) DeviceFault)
+    abbrev pub of_looked : (old new : Openings D) → (other : Result (Option JobFault) DeviceFault)
         → IsOnlyRead d found looked (is_err other)
         → DrivesLooked (set options) looked old new result other → Comes
     of_looked old new (Err failed) sized ends = None

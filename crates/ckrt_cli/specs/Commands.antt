@@ -95,7 +95,7 @@ AllKept c [] = Unit {0}
 AllKept c (r ∷ more) = IsKeptIn c r × AllKept c more
 
 -- What a run left of disk and output: in its drive what a stop leaves at that stage; before it the output as it was, and the disk too, perhaps
--- with zeros behind it.
+-- with zeros behind it, and with its schedule noted.
 abbrev pub Leaves : {S D W : Type 0} {d : Ghosts D} {reach : S → Reach d W} {f : Paths}
     → (r : Run reach f) → Option (DriveIn r) → (disk output : D) → Type 0
 Leaves r (Some x) disk output = StopLeaves (as_drive x).stages (as_drive x).first x.at disk output

@@ -1,6 +1,7 @@
 -- The drive that a run of the program came to: what is asked of the system for it, and what is promised of it.
-use Rattle.std.specs.Prelude.{◌≡◌, ◌<◌, ℕ, Bool, List, [], ◌∷◌, length, IfSome, Option, Some, None}
+use Rattle.std.specs.Prelude.{◌≡◌, ◌<◌, ℕ, Bool, List, [], ◌∷◌, length, IfSome, Option, Some, None, Result}
 use Rattle.ckrt_disk.specs.Frame.{IsOnlyRead, MayBeLeft}
+use Rattle.ckrt_disk.specs.declared.disk.DeviceFault.{DeviceFault}
 use Rattle.ckrt_disk.specs.declared.disk.Disk.{Ghosts}
 use Rattle.ckrt_drive.specs.Output.{HoldsOutput}
 use Rattle.ckrt_drive.specs.Runs.{IsAllSaved}
@@ -10,7 +11,9 @@ use Rattle.ckrt_recovery.specs.Opening.{IsSyncedAndRead}
 use Rattle.ckrt_recovery.specs.View.{view_of}
 use Rattle.ckrt_schedule.specs.declared.schedule.Schedule.{Schedule}
 use Rattle.ckrt_cli_files.specs.Sources.{Gives}
+use Rattle.ckrt_cli_disk.specs.Noting.{Notes}
 use Rattle.ckrt_stored.specs.Programs.{output_after}
+use Rattle.ckrt_stored.specs.declared.schedule.ScheduleNote.{ScheduleNote}
 use Rattle.ckrt_cli_words.specs.Jobs.{Driving}
 use Rattle.ckrt_drive_theorem.specs.ByPlan.{IsByPlan, IsUnbroken, course}
 use Rattle.ckrt_drive_theorem.specs.Drives.{HasEnded, Keeps, OneDrive, past_behind}
@@ -70,7 +73,7 @@ pub record IsKept {D : Type 0} {d : Ghosts D} {gives : Gives D} {j : Driving} {p
   pub same_input : (way_of_run x.came.run).file ≡ c.file
   -- a disk that was made longer for its record has zeros there
   pub longer : (looked : D) → x.came.asked.lengthened ≡ looked ∷ x.came.before.lengthened
-      → HasZerosBehind d looked x.came.run.start
+      → HasZerosBehind d looked x.came.supplied
 
 -- what a stop may leave of a device is what it might have left before
 pub record IsAsBefore {D : Type 0} (d : Ghosts D) (old left : D) : Type 0 where
@@ -111,10 +114,13 @@ HoldsBehind c h Next (Some x) = (k : Holds c h x) × Next (past_behind (as_drive
 
 -- BEFORE A DRIVE
 
--- Reading a disk and recovering it leave it as it was, whatever a stop meanwhile leaves: with no zero behind it. What is left so of what was left
--- so was left so.
+-- Reading a disk and recovering it leave it as it was, whatever a stop meanwhile leaves: with no zero behind it. Noting a schedule on it leaves it
+-- so too, but for the notes. What is left so of what was left so was left so.
 pub record LeaveItLonger {D : Type 0} (d : Ghosts D) : Type 0 where
   pub reading : (start end left : D) (failed : Bool) → IsOnlyRead d start end failed
+      → d.is_honest end → IsLeftSince d start end left → IsLengthened d start left
+  pub noting : (schedule : ScheduleNote) (start end left : D)
+      (answer : Result (Unit {0}) DeviceFault) → Notes d schedule start end answer
       → d.is_honest end → IsLeftSince d start end left → IsLengthened d start left
   pub recovering : (start end left : D) (failed : Bool) → IsSyncedAndRead d start end failed
       → d.is_honest end → IsLeftSince d start end left → IsLengthened d start left

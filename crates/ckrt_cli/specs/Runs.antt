@@ -9,6 +9,8 @@ use Rattle.ckrt_schedule.specs.declared.next.ScheduleEnd.{ScheduleEnd}
 use Rattle.ckrt_cli_disk.specs.Driving.{DrivesWay, Way, way_of}
 use Rattle.ckrt_recovery.specs.Recovered.{IsRecovered}
 use Rattle.ckrt_cli_disk.specs.Feeding.{SuppliesFrom}
+use Rattle.ckrt_cli_disk.specs.Noting.{Notes}
+use Rattle.ckrt_stored.specs.declared.schedule.ScheduleNote.{ScheduleNote}
 use Rattle.ckrt_cli_files.specs.Openings.{Openings}
 use Rattle.ckrt_cli_files.specs.Sources.{Gives}
 use Rattle.ckrt_cli_reports.specs.declared.driven.Driven.{Driven}
@@ -76,12 +78,13 @@ abbrev pub TellsIfLonger : {D : Type 0} → Ghosts D → (old new : Openings D) 
 TellsIfLonger {D = D} d old new start =
     (looked : D) → new.lengthened ≡ looked ∷ old.lengthened → TellsAsBefore d looked start
 
--- A run whose disk and input were supplied to it so was told what the record of that disk says: the words have their say only where the disk
--- can't tell.
+-- A run whose disk and input were supplied to it so, and whose schedule was then noted, was told what the record of that disk says: the words
+-- have their say only where the disk can't tell.
 abbrev pub RunsAreTold : {D O : Type 0} → Ghosts D → Ghosts O → Gives D → Type 0
 RunsAreTold {D = D} d o gives =
-    (r : ProgramRun d o) (found : D) (path : List ℕ) (from : Option ℕ) (old new : Openings D)
-    → TellsIfLonger d old new r.start
+    (r : ProgramRun d o) (found supplied : D) (path : List ℕ) (from : Option ℕ) (old new : Openings D)
+    (schedule : ScheduleNote) → TellsIfLonger d old new supplied
     → SuppliesFrom d gives path from found old new
-    (Ok (record { disk = r.start; intake = r.intake })) → IsRecovered d r.start r.before
+    (Ok (record { disk = supplied; intake = r.intake }))
+    → Notes d schedule supplied r.start (Ok tt) → IsRecovered d r.start r.before
     → d.is_honest r.after.disk → (at : Stage d o) → IsToldByRecord (drive_of r at)

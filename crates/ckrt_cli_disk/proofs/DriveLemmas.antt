@@ -1,7 +1,6 @@
 -- The drive of a disk, where less is known of what sources may give.
 use Rattle.std.proofs.Common.{◌≡◌, ℕ, true, sym, subst, List, Option, Some, None, Result, Ok, Err, IfErr, inl, inr}
 use Rattle.ckrt_machine.specs.Steps.{State}
-use Rattle.ckrt_stored.specs.declared.config.Config.{Config}
 use Rattle.ckrt_disk.specs.declared.disk.DeviceFault.{DeviceFault}
 use Rattle.ckrt_disk.specs.declared.disk.Disk.{Ghosts}
 use Rattle.ckrt_drive.specs.declared.fault.DriveFault.{DriveFault}
@@ -10,7 +9,7 @@ use Rattle.ckrt_schedule.specs.declared.next.ScheduleEnd.{ScheduleEnd}
 use Rattle.ckrt_drive.specs.declared.stream.StreamOutput.{StreamOutput}
 use Rattle.ckrt_stored.specs.declared.fault.RecoverFault.{RecoverFault}
 use Rattle.ckrt_cli_words.specs.Jobs.{Driving}
-use Rattle.ckrt_cli_disk.specs.Driving.{DrivesFed, DrivesInRange, DrivesLooked, DrivesOpened, DrivesPath, DrivesSized, DrivesSupplied, DrivesToward, IsAsked, Ready, Setting, driven_of, means_of, ready, setting_of}
+use Rattle.ckrt_cli_disk.specs.Driving.{DrivesBehindNote, DrivesFed, DrivesInRange, DrivesLooked, DrivesNoted, DrivesOpened, DrivesPath, DrivesSized, DrivesSupplied, DrivesToward, IsAsked, Ready, Setting, driven_of, means_of, ready, setting_of}
 use Rattle.ckrt_cli_reports.specs.Ranges.{is_in_range, config_for}
 use Rattle.ckrt_cli_disk.specs.Feeding.{EndsWithRoom, MakesRoom, Supplies, SuppliesOpened, SuppliesTaken, made_size}
 use Rattle.ckrt_cli_disk.specs.Missing.{FindsDisk}
@@ -87,8 +86,16 @@ module _ {D : Type 0} (d : Ghosts D) (before after : Gives D) (are : GivesNoMore
     opened_weaker old start (inr drives) =
         inr (record { session = drives.session; recovered = drives.recovered; drives = toward_weaker old j.output (ready drives.session start.intake) drives.drives })
 
+    pub noted_weaker : (old : Openings D) (start : Supplied D) → DrivesNoted (set after) start old new result → DrivesNoted (set before) start old new result
+    noted_weaker old start noted = record { disk = noted.disk; answer = noted.answer; notes = noted.notes; drives = behind_weaker noted.answer noted.drives }
+      where
+        behind_weaker : (answer : Result (Unit {0}) DeviceFault) → DrivesBehindNote (set after) (record { disk = noted.disk; intake = start.intake }) old new result answer
+            → DrivesBehindNote (set before) (record { disk = noted.disk; intake = start.intake }) old new result answer
+        behind_weaker (Err failed) closed = closed
+        behind_weaker (Ok done) drives = opened_weaker old (record { disk = noted.disk; intake = start.intake }) drives
+
     supplied_weaker : (old : Openings D) (found : Result (Supplied D) JobFault) → DrivesSupplied (set after) old new result found → DrivesSupplied (set before) old new result found
-    supplied_weaker old (Ok it) drives = opened_weaker old it drives
+    supplied_weaker old (Ok it) drives = noted_weaker old it drives
     supplied_weaker old (Err fault) same = same
 
     fed_weaker : (old : Openings D) (disk : D) → DrivesFed (set after) disk old new result → DrivesFed (set before) disk old new result
@@ -99,12 +106,12 @@ module _ {D : Type 0} (d : Ghosts D) (before after : Gives D) (are : GivesNoMore
       drives = supplied_weaker fed.asked fed.found fed.drives;
     }
 
-    looked_weaker : (old : Openings D) (disk : D) (found : Result (Option Config) DeviceFault) → DrivesLooked (set after) disk old new result found → DrivesLooked (set before) disk old new result found
+    looked_weaker : (old : Openings D) (disk : D) (found : Result (Option JobFault) DeviceFault) → DrivesLooked (set after) disk old new result found → DrivesLooked (set before) disk old new result found
     looked_weaker old disk (Err failed) closed = closed
     looked_weaker old disk (Ok (Some other)) closed = closed
     looked_weaker old disk (Ok None) drives = fed_weaker old disk drives
 
-    pub sized_weaker : (old : Openings D) (start : D) → DrivesSized (set after) j.sizes start old new result → DrivesSized (set before) j.sizes start old new result
+    pub sized_weaker : (old : Openings D) (start : D) → DrivesSized (set after) j start old new result → DrivesSized (set before) j start old new result
     sized_weaker old start sized = record {
       disk = sized.disk;
       found = sized.found;
@@ -117,7 +124,7 @@ module _ {D W : Type 0} (d : Ghosts D) (o : Ghosts (StreamOutput W)) (Lent : (st
   -- a disk that was found and driven is that of the job's path, where less is known of what sources may give
   pub found_driven : (after : Gives D) → GivesNoMore before after → (options : Options) (start : D) (old asked new : Openings D) (result : Result Driven JobFault) → IsAsked j options
       → FindsDisk d (config_for j.sizes) images (Opens j.disk) (Fills j.disk (made_size j)) j.disk j.image old asked (Ok start)
-      → DrivesSized (setting_of {d = d} o Lent after j options) j.sizes start asked new result → DrivesPath (means_of d o Lent images Opens Fills before j) j old new result
+      → DrivesSized (setting_of {d = d} o Lent after j options) j start asked new result → DrivesPath (means_of d o Lent images Opens Fills before j) j old new result
   found_driven after are options start old asked new result as_asked finds sized =
       subst (λ b. DrivesInRange (means_of d o Lent images Opens Fills before j) j old new result b) (sym inside) (record {
         found = Ok start;

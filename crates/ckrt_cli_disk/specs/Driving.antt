@@ -1,7 +1,7 @@
 -- The drive of a disk, with its input from a file, and its output in a disk of its own or on the standard output: from the words' options to
 -- the ending.
 use Rattle.std.specs.Prelude.{◌≡◌, ◌⊎◌, ◌-◌, ◌^◌, ℕ, Bool, true, false, List, Option, Some, None, Result, Ok, Err, IfErr, IfOk, IfSome, is_err, is_some}
-use Rattle.ckrt_stored.specs.declared.config.Config.{Config}
+use Rattle.ckrt_stored.specs.declared.schedule.ScheduleNote.{ScheduleNote}
 use Rattle.ckrt_disk.specs.Disk.{HasFailed}
 use Rattle.ckrt_disk.specs.Frame.{IsOnlyRead}
 use Rattle.ckrt_disk.specs.declared.disk.DeviceFault.{DeviceFault}
@@ -23,7 +23,6 @@ use Rattle.ckrt_drive.specs.declared.options.Options.{Options}
 use Rattle.ckrt_schedule.specs.declared.next.ScheduleEnd.{ScheduleEnd}
 use Rattle.ckrt_drive.specs.declared.stream.StreamOutput.{StreamOutput}
 use Rattle.ckrt_cli_words.specs.Jobs.{Driving}
-use Rattle.ckrt_cli_words.specs.declared.job.Sizes.{Sizes}
 use Rattle.ckrt_cli_disk.specs.Addresses.{fault_address}
 use Rattle.ckrt_cli_disk.specs.Feeding.{Supplies, file_of, made_size}
 use Rattle.ckrt_cli_reports.specs.Lengths.{fits, lengths_of}
@@ -31,7 +30,7 @@ use Rattle.ckrt_cli_disk.specs.Missing.{FindsDisk}
 use Rattle.ckrt_cli_files.specs.Openings.{Openings, opened, with_both_closed, with_closed, with_closed_output, with_output}
 use Rattle.ckrt_cli_reports.specs.Outside.{Lacks}
 use Rattle.ckrt_cli_reports.specs.Ranges.{config_for, is_in_range}
-use Rattle.ckrt_cli_disk.specs.Sizes.{other_sizes}
+use Rattle.ckrt_cli_disk.specs.Noting.{FitsWords, Notes, asked_schedule}
 use Rattle.ckrt_cli_files.specs.Sources.{Gives}
 use Rattle.ckrt_cli_reports.specs.declared.driven.Driven.{Driven}
 use Rattle.ckrt_cli_reports.specs.declared.fault.JobFault.{JobFault}
@@ -123,7 +122,7 @@ answer_of why (Err Output) = Err (job.OutputFailed why)
 answer_of why (Err fault) = Err (job.Drive fault)
 
 -- What a drive is set among: its stream, and how that is lent its writer; what sources may give; the file of its input, and where the words say
--- that it goes on; where its output goes, and below which offset it is left out; and how it goes.
+-- that it goes on; where its output goes, and below which offset it is left out; the schedule that it notes; and how it goes.
 pub record Setting {D : Type 0} (d : Ghosts D) (W : Type 0) : Type 1 where
   pub stream : Ghosts (StreamOutput W)
   pub Lent : (stream end : StreamOutput W) → Type 0
@@ -132,6 +131,7 @@ pub record Setting {D : Type 0} (d : Ghosts D) (W : Type 0) : Type 1 where
   pub input_from : Option ℕ
   pub output : Option (List ℕ)
   pub from : ℕ
+  pub schedule : ScheduleNote
   pub options : Options
 
 abbrev pub setting_of : {D W : Type 0} {d : Ghosts D} → Ghosts (StreamOutput W)
@@ -144,6 +144,7 @@ setting_of o Lent gives j options = record {
   input_from = j.input_from;
   output = j.output;
   from = offset_of j.from;
+  schedule = asked_schedule j;
   options = options;
 }
 
@@ -273,12 +274,32 @@ DrivesOpened {d = d} set start old new result =
     LacksRecovery d start.disk (file_of start.intake) old new result
     ⊎ DrivesDisk set start old new result
 
+-- THE SCHEDULE
+
+-- it was driven, where its schedule was noted, or was before; where that failed all were closed as they were
+abbrev pub DrivesBehindNote : {D W : Type 0} {d : Ghosts D} → Setting d W → (start : Supplied D)
+    → (old new : Openings D) → Result Driven JobFault
+    → (answer : Result (Unit {0}) DeviceFault) → Type 0
+DrivesBehindNote set start old new result (Err failed) =
+    (result ≡ Err (job.Recover recover.Device))
+    × (new ≡ with_both_closed old (file_of start.intake) start.disk)
+DrivesBehindNote set start old new result (Ok done) = DrivesOpened set start old new result
+
+-- the schedule of the words was noted on a disk with its input, which was then driven
+pub record DrivesNoted {D W : Type 0} {d : Ghosts D} (set : Setting d W) (start : Supplied D)
+    (old new : Openings D) (result : Result Driven JobFault) : Type 0 where
+  pub disk : D
+  pub answer : Result (Unit {0}) DeviceFault
+  pub notes : Notes d set.schedule start.disk disk answer
+  pub drives : DrivesBehindNote set (record { disk = disk; intake = start.intake }) old new result
+      answer
+
 -- THE INPUT
 
 -- it was driven with its input, where that was found
 abbrev pub DrivesSupplied : {D W : Type 0} {d : Ghosts D} → Setting d W → (old new : Openings D)
     → Result Driven JobFault → (found : Result (Supplied D) JobFault) → Type 0
-DrivesSupplied set old new result (Ok it) = DrivesOpened set it old new result
+DrivesSupplied set old new result (Ok it) = DrivesNoted set it old new result
 DrivesSupplied set old new result (Err fault) = (result ≡ Err fault) × (new ≡ old)
 
 -- a disk with the sizes of the words was driven, with the input of the words, where they name one
@@ -289,25 +310,25 @@ pub record DrivesFed {D W : Type 0} {d : Ghosts D} (set : Setting d W) (start : 
   pub supplies : Supplies d set.sources set.input set.input_from start old asked found
   pub drives : DrivesSupplied set asked new result found
 
--- THE SIZES
+-- WHETHER IT FITS
 
--- What became of a disk that was looked at: a read failed; or it has other sizes than those that are asked for; or it was driven. Where it
--- wasn't, it was closed as it was, and nothing else was asked for.
+-- What became of a disk that was looked at: a read failed; or it has other sizes than those that are asked for, or notes another schedule; or it
+-- was driven. Where it wasn't, it was closed as it was, and nothing else was asked for.
 abbrev pub DrivesLooked : {D W : Type 0} {d : Ghosts D} → Setting d W → D → (old new : Openings D)
-    → Result Driven JobFault → (found : Result (Option Config) DeviceFault) → Type 0
+    → Result Driven JobFault → (found : Result (Option JobFault) DeviceFault) → Type 0
 DrivesLooked set disk old new result (Err failed) =
     (result ≡ Err (job.Recover recover.Device)) × (new ≡ with_closed old disk)
-DrivesLooked set disk old new result (Ok (Some other)) =
-    (result ≡ Err (job.SizesDiffer other)) × (new ≡ with_closed old disk)
+DrivesLooked set disk old new result (Ok (Some fault)) =
+    (result ≡ Err fault) × (new ≡ with_closed old disk)
 DrivesLooked set disk old new result (Ok None) = DrivesFed set disk old new result
 
--- the disk's sizes were read, and it was driven where they are those that are asked for
-pub record DrivesSized {D W : Type 0} {d : Ghosts D} (set : Setting d W) (sizes : Sizes) (start : D)
+-- the disk's sizes and its schedule were read, and it was driven where they fit the words
+pub record DrivesSized {D W : Type 0} {d : Ghosts D} (set : Setting d W) (j : Driving) (start : D)
     (old new : Openings D) (result : Result Driven JobFault) : Type 0 where
   pub disk : D
-  pub found : Result (Option Config) DeviceFault
+  pub found : Result (Option JobFault) DeviceFault
   pub read : IsOnlyRead d start disk (is_err found)
-  pub exact : IfOk found (λ other. d.is_honest disk → other ≡ other_sizes sizes (d.content start))
+  pub exact : IfOk found (λ answer. d.is_honest disk → FitsWords j (d.content start) answer)
   pub drives : DrivesLooked set disk old new result found
 
 -- THE JOB
@@ -340,8 +361,7 @@ pub record DrivesIt {D W : Type 0} {d : Ghosts D} (means : Means d W) (j : Drivi
   pub options : Options
   pub asked : IsAsked j options
   pub drives : DrivesSized
-      (setting_of {d = d} means.stream means.Lent means.sources j options) j.sizes start old new
-      result
+      (setting_of {d = d} means.stream means.Lent means.sources j options) j start old new result
 
 abbrev pub DrivesFound : {D W : Type 0} {d : Ghosts D} → Means d W → Driving
     → (old new : Openings D) → Result Driven JobFault → (found : Result D JobFault) → Type 0

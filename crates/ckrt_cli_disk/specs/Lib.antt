@@ -9,3 +9,4 @@ pub mod Programs
 pub mod Running
 pub mod Showing
 pub mod Sizes
+pub mod Noting

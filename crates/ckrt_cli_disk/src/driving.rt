@@ -1,14 +1,14 @@
 //! Driving a disk.
 ghost use Rattle.std.specs.Prelude.{◌≡◌, None, Some, is_some, true};
 ghost use Rattle.ckrt_cli_words.specs.Jobs.{driving_of};
-ghost use Rattle.ckrt_cli_disk.specs.Driving.{DrivesFed, DrivesInto, DrivesOnto, DrivesOpened, DrivesOpenedOutput, DrivesPath, DrivesRecovered, DrivesSized, DrivesStream, DrivesWay, IsAsked, IsLent, IsUnwritten, answer_of, driven_of, means_of, offset_of, ready, setting_of, way_of};
+ghost use Rattle.ckrt_cli_disk.specs.Driving.{DrivesFed, DrivesInto, DrivesNoted, DrivesOnto, DrivesOpened, DrivesOpenedOutput, DrivesPath, DrivesRecovered, DrivesSized, DrivesStream, DrivesWay, IsAsked, IsLent, IsUnwritten, answer_of, driven_of, means_of, offset_of, ready, setting_of, way_of};
 ghost use Rattle.ckrt_cli_reports.specs.Ranges.{is_in_range};
 ghost use Rattle.ckrt_drive.specs.Streams.{HasSameWriter};
 
 use crate::address::fault_address;
 use crate::feeding::{Intake, Supplied, close_both, file_of, supply};
+use crate::fitting::{asked_schedule, unfitness};
 use crate::missing::find_disk;
-use crate::sizes::other_sizes;
 use ckrt_cli_files::{JobFile, OpenedOutput, OutputReason, Sources};
 use ckrt_cli_reports::{DrivePaths, Driven, JobFault, Meter, OutputLengths, Watch, is_in_range};
 use ckrt_cli_words::DriveJob;
@@ -17,6 +17,7 @@ use ckrt_drive::{Drive, DriveFault, Feed, FromDisk, Nothing, Options, StreamOutp
 use ckrt_machine::Machine;
 use ckrt_recovery::{RecoverFault, Session, recover};
 use ckrt_schedule::ScheduleEnd;
+use ckrt_stored::note_schedule;
 use std::alloc::Global;
 use std::io::{Read, Write};
 
@@ -363,6 +364,38 @@ fn drive_opened<'a, I: Read, D: Disk, S: Sources<'a, I, D>, W: Write + 'a, M: Me
     }
 }
 
+/// Notes the schedule of the words on a disk with its input, and drives it.
+fn drive_noted<'a, I: Read, D: Disk, S: Sources<'a, I, D>, W: Write + 'a, M: Meter>(
+    alloc: Global,
+    supplied: Supplied<D>,
+    job: &DriveJob<'a>,
+    options: Options,
+    sources: &mut S,
+    writer: &mut W,
+    meter: &mut M,
+) -> Result<Driven, JobFault>
+    requires { is_in_range (driving_of job.now) ≡ true }
+    ensures drives { DrivesNoted {d = D.Disk} (setting_of ⟦<StreamOutput<'a, W> as Disk>⟧
+        (IsLent W.contents (W.contents writer.old) (W.contents writer.new)) (S.gives sources.old)
+        (driving_of job.now) options) supplied (S.openings sources.old) (S.openings sources.new)
+        result }
+    ensures unwritten { IsUnwritten (driving_of job.now).output (W.contents writer.old)
+        (W.contents writer.new) }
+{
+    let Supplied { disk, intake } = supplied;
+    let mut disk = disk;
+    match note_schedule(&mut disk, &asked_schedule(job)) {
+        Ok(()) => {
+            let noted = Supplied { disk, intake };
+            drive_opened::<I, D, S, W, M>(alloc, noted, job, options, sources, writer, meter)
+        }
+        Err(_) => {
+            close_both::<D, S>(disk, file_of(intake), sources);
+            Err(JobFault::Recover(RecoverFault::Device))
+        }
+    }
+}
+
 /// Drives a disk with the input of the words, where they name one.
 fn drive_fed_by_words<'a, I: Read, D: Disk, S: Sources<'a, I, D>, W: Write + 'a, M: Meter>(
     alloc: Global,
@@ -382,10 +415,10 @@ fn drive_fed_by_words<'a, I: Read, D: Disk, S: Sources<'a, I, D>, W: Write + 'a,
         (W.contents writer.new) }
 {
     let supplied = supply::<I, D, S>(disk, job, sources)?;
-    drive_opened::<I, D, S, W, M>(alloc, supplied, job, options, sources, writer, meter)
+    drive_noted::<I, D, S, W, M>(alloc, supplied, job, options, sources, writer, meter)
 }
 
-/// Drives a disk that was found, if it has the sizes that are asked for; else closes it as it is.
+/// Drives a disk that was found, if it has the sizes and the schedule that are asked for; else closes it as it is.
 fn drive_sized<'a, I: Read, D: Disk, S: Sources<'a, I, D>, W: Write + 'a, M: Meter>(
     alloc: Global,
     disk: D,
@@ -398,20 +431,20 @@ fn drive_sized<'a, I: Read, D: Disk, S: Sources<'a, I, D>, W: Write + 'a, M: Met
     requires { is_in_range (driving_of job.now) ≡ true }
     ensures drives { DrivesSized {d = D.Disk} (setting_of ⟦<StreamOutput<'a, W> as Disk>⟧
         (IsLent W.contents (W.contents writer.old) (W.contents writer.new)) (S.gives sources.old)
-        (driving_of job.now) options) job.now.sizes disk (S.openings sources.old)
+        (driving_of job.now) options) (driving_of job.now) disk (S.openings sources.old)
         (S.openings sources.new) result }
     ensures unwritten { IsUnwritten (driving_of job.now).output (W.contents writer.old)
         (W.contents writer.new) }
 {
     let mut disk = disk;
-    let found = other_sizes(&mut disk, &job.sizes);
+    let found = unfitness(&mut disk, job);
     match found {
         Ok(None) => {
             drive_fed_by_words::<I, D, S, W, M>(alloc, disk, job, options, sources, writer, meter)
         }
-        Ok(Some(other)) => {
+        Ok(Some(fault)) => {
             sources.close(disk);
-            Err(JobFault::SizesDiffer(other))
+            Err(fault)
         }
         Err(_) => {
             sources.close(disk);
@@ -428,8 +461,9 @@ fn drive_sized<'a, I: Read, D: Disk, S: Sources<'a, I, D>, W: Write + 'a, M: Met
 ///
 /// The first that applies: `Range`, before anything is opened; `File` of the disk, or what making it answers; where it is there,
 /// what the image's fault is, and `ImageDiffers`, both before a byte of the disk is changed; `BadConfig` where
-/// it has other sizes than those of the words; what the input's fault is, before a byte of the disk is changed; `Recover`, before
-/// the output is asked for; `File` of the output; then what the drive answers.
+/// it has other sizes than those of the words, and `ScheduleDiffers` where it notes another schedule, and the words don't say that this is meant;
+/// what the input's fault is, before a byte of the disk is changed; `Recover`, before the output is asked for, once the schedule is noted;
+/// `File` of the output; then what the drive answers.
 pub fn drive_path<'a, I: Read + Drop, D: Disk, S: Sources<'a, I, D>, W: Write + 'a, M: Meter>(
     alloc: Global,
     job: &DriveJob<'a>,

@@ -38,6 +38,10 @@
 //! length, that is the fault ImageDiffers, with both; else it is driven. Either way no byte of it is written before, and where it
 //! is refused it is closed as it was. The image is only read where the disk notes its program.
 //!
+//! Proved of the schedule of a drive: where a disk that is there notes another one, that is the fault ScheduleDiffers, with both, unless the
+//! words say that it is meant; the disk is closed as it was. Else it is noted once the input is found, before the disk is recovered, and
+//! nowhere but where schedules are noted: a stop meanwhile leaves the old one or the new one.
+//!
 //! Proved of `drive`: numbers out of their ranges are the fault Range, before anything is opened; the output is asked for
 //! only once the disk is recovered; the session that its content recovers to was driven as `ckrt_drive` says, step by step
 //! from the first round up to an end, with the options of the words; the program's status is the session's; and disk and
@@ -62,6 +66,7 @@ mod address;
 mod core_file;
 mod driving;
 mod feeding;
+mod fitting;
 mod image;
 mod laws;
 mod making;

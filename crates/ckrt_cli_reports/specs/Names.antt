@@ -65,6 +65,7 @@ name_of (job.Inspect f) = name_of_look f
 name_of job.Range = codes "Range"
 name_of (job.SizesDiffer c) = codes "BadConfig"
 name_of (job.ImageDiffers n) = codes "ImageDiffers"
+name_of (job.ScheduleDiffers n) = codes "ScheduleDiffers"
 name_of (job.OutputDiffers l) = codes "OutputDiffers"
 name_of job.NotRecorded = codes "NotRecorded"
 name_of (job.OffsetDiffers taken) = codes "OffsetDiffers"

@@ -3,7 +3,7 @@ ghost use Rattle.std.specs.Prelude.{◌≡◌};
 ghost use Rattle.ckrt_cli_reports.specs.Names.{name_of, name_of_drive, name_of_look};
 
 use crate::lengths::{InputLengths, OutputLengths};
-use crate::notes::ProgramNotes;
+use crate::notes::{ProgramNotes, ScheduleNotes};
 use ckrt_cli_files::{FileFault, JobFile, OutputReason};
 use ckrt_drive::DriveFault;
 use ckrt_inspect::InspectFault;
@@ -31,6 +31,8 @@ pub enum JobFault {
     SizesDiffer(Config),
     /// The disk notes another program than that of the image.
     ImageDiffers(ProgramNotes),
+    /// The disk notes another schedule than that of the words.
+    ScheduleDiffers(ScheduleNotes),
     /// The file of the output has another length than that of the disk.
     OutputDiffers(OutputLengths),
     /// The disk can't tell how much of its input its program has taken.
@@ -173,6 +175,10 @@ const SIZES_ADVICE: &str = "these stay; give them, or leave them out";
 const IMAGE_ADVICE: &str =
     "to begin anew remove disk and output; to go on with the program of the disk leave --image out";
 
+/// What is said of a disk that notes another schedule than that of the words, behind both.
+const SCHEDULE_ADVICE: &str =
+    "give those of the disk; or add --other-schedule to go on by the new one, by which the output may be another; to begin anew remove disk and output";
+
 /// What is said of a disk that can't tell how much of its input its program has taken.
 const NOT_RECORDED_ADVICE: &str =
     "it can't tell how much of the input its program has read, since it was last saved without one: `--input-from` says how many bytes that were then";
@@ -249,6 +255,7 @@ impl JobFault {
             JobFault::Range => "Range",
             JobFault::SizesDiffer(_) => "BadConfig",
             JobFault::ImageDiffers(_) => "ImageDiffers",
+            JobFault::ScheduleDiffers(_) => "ScheduleDiffers",
             JobFault::OutputDiffers(_) => "OutputDiffers",
             JobFault::NotRecorded => "NotRecorded",
             JobFault::OffsetDiffers(_) => "OffsetDiffers",
@@ -274,6 +281,7 @@ impl JobFault {
             JobFault::Range => UNFIT_ADVICE,
             JobFault::SizesDiffer(_) => SIZES_ADVICE,
             JobFault::ImageDiffers(_) => IMAGE_ADVICE,
+            JobFault::ScheduleDiffers(_) => SCHEDULE_ADVICE,
             JobFault::OutputDiffers(lengths) => lengths_advice(lengths),
             JobFault::NotRecorded => NOT_RECORDED_ADVICE,
             JobFault::OffsetDiffers(_) => OFFSET_ADVICE,
@@ -310,6 +318,7 @@ impl JobFault {
             ) => Some(JobFile::Disk),
             JobFault::SizesDiffer(_)
             | JobFault::ImageDiffers(_)
+            | JobFault::ScheduleDiffers(_)
             | JobFault::NotRecorded
             | JobFault::OffsetDiffers(_)
             | JobFault::Unrecorded

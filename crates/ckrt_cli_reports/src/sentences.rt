@@ -1,10 +1,12 @@
 //! What is said of a fault: of its file, of its numbers, and of numbers in the words that are out of their ranges.
 use crate::fault::JobFault;
+use crate::notes::ScheduleNotes;
 use crate::ranges::{config_for, is_choice, is_target, is_time};
 use ckrt_cli_files::JobFile;
 use ckrt_cli_words::{DriveJob, HuntJob, Job, TimelineJob};
 use ckrt_events::LONG_RUN_LIMIT;
 use ckrt_recovery::{Config, FormatFault};
+use ckrt_stored::ScheduleNote;
 
 /// A piece of what is said: a text, a number in decimal, or a digest in hexadecimal digits.
 #[derive(Clone, Copy)]
@@ -17,8 +19,8 @@ pub(crate) enum Piece<'a> {
     Digest([u8; 32]),
 }
 
-/// At most three numbers or digests, with texts before, between and after them.
-pub(crate) type Sentence<'a> = [Piece<'a>; 7];
+/// At most four numbers or digests, with texts before, between and after them.
+pub(crate) type Sentence<'a> = [Piece<'a>; 9];
 
 /// No text.
 const NOTHING: Piece<'static> = Piece::Text("");
@@ -53,6 +55,8 @@ fn two(
         Piece::Text(between),
         second,
         Piece::Text(after),
+        NOTHING,
+        NOTHING,
         NOTHING,
         NOTHING,
     ]
@@ -162,6 +166,32 @@ fn sizes_of_disk(sizes: Config) -> Sentence<'static> {
         Piece::Text(" --journal "),
         Piece::Number(u64::from(sizes.journal)),
         Piece::Text(": "),
+        NOTHING,
+        NOTHING,
+    ]
+}
+
+/// The word of a seed, and the seed, where a schedule has one.
+fn seed_of(schedule: ScheduleNote) -> [Piece<'static>; 2] {
+    match schedule.seed {
+        Some(seed) => [Piece::Text(" --seed "), Piece::Number(seed)],
+        None => [NOTHING, NOTHING],
+    }
+}
+
+/// The schedule that a disk notes, and that of the words.
+fn both_schedules(notes: ScheduleNotes) -> Sentence<'static> {
+    let (disk, words) = (seed_of(notes.disk), seed_of(notes.words));
+    [
+        Piece::Text("it goes by --turn "),
+        Piece::Number(notes.disk.turn),
+        disk[0],
+        disk[1],
+        Piece::Text(", and these words ask for --turn "),
+        Piece::Number(notes.words.turn),
+        words[0],
+        words[1],
+        Piece::Text(": "),
     ]
 }
 
@@ -178,6 +208,7 @@ pub(crate) fn numbers_of(job: &Job<'_>, fault: JobFault) -> Sentence<'static> {
             Piece::Digest(notes.image.digest),
             ": ",
         ),
+        JobFault::ScheduleDiffers(notes) => both_schedules(notes),
         JobFault::OutputDiffers(lengths) => [
             Piece::Text("it has "),
             Piece::Number(lengths.length),
@@ -186,6 +217,8 @@ pub(crate) fn numbers_of(job: &Job<'_>, fault: JobFault) -> Sentence<'static> {
             Piece::Text(" to "),
             Piece::Number(lengths.released),
             Piece::Text(": "),
+            NOTHING,
+            NOTHING,
         ],
         JobFault::OffsetDiffers(taken) => one(
             "its program has taken ",

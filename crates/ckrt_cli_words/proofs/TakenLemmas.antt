@@ -74,7 +74,7 @@ inspect_rules : AreRules inspect_shape refl inspect_shape.rules
 inspect_rules = ((refl, inl (refl, refl)), ((refl, inl (refl, refl)), ((refl, inr (inr (refl, (_, [], refl)))), ((refl, inl (refl, refl)), ((refl, inr (inl refl)), tt)))))
 
 drive_rules : AreRules drive_shape refl drive_shape.rules
-drive_rules = ((refl, inl (refl, refl)), ((refl, inl (refl, refl)), ((refl, inl (refl, refl)), ((refl, inl (refl, refl)), ((refl, inl (refl, refl)), ((refl, inl (refl, refl)), ((refl, inl (refl, refl)), ((refl, inl (refl, refl)), ((refl, inl (refl, refl)), ((refl, inl (refl, refl)), ((refl, inl (refl, refl)), ((refl, inl (refl, refl)), ((refl, inl (refl, refl)), ((refl, inl (refl, refl)), ((refl, inl (refl, refl)), ((refl, inl (refl, refl)), ((refl, inl (refl, refl)), ((refl, inr (inl refl)), tt))))))))))))))))))
+drive_rules = ((refl, inl (refl, refl)), ((refl, inl (refl, refl)), ((refl, inl (refl, refl)), ((refl, inl (refl, refl)), ((refl, inl (refl, refl)), ((refl, inl (refl, refl)), ((refl, inl (refl, refl)), ((refl, inl (refl, refl)), ((refl, inl (refl, refl)), ((refl, inl (refl, refl)), ((refl, inl (refl, refl)), ((refl, inl (refl, refl)), ((refl, inr (inr (refl, (_, [], refl)))), ((refl, inl (refl, refl)), ((refl, inl (refl, refl)), ((refl, inl (refl, refl)), ((refl, inl (refl, refl)), ((refl, inl (refl, refl)), ((refl, inr (inl refl)), tt)))))))))))))))))))
 
 core_rules : AreRules core_shape refl core_shape.rules
 core_rules = ((refl, inl (refl, refl)), ((refl, inl (refl, refl)), ((refl, inl (refl, refl)), ((refl, inr (inl refl)), tt))))
@@ -265,7 +265,7 @@ drive_named words pass =
     let input_from = place_in (codes "input-from") rows in
     let output = first_of (codes "output") rows in
     let status = first_of (codes "status") rows in
-    (drive (record { disk = disk.0; image = first_of (codes "image") rows; sizes = sizes_in rows; input = input; input_from = input_from; output = output; turn = turn.0; rounds = rounds.0; events = events; seed = seed; progress = progress; status = status; from = place_in (codes "from") rows }), rw (disk.1, turn.1, rounds.1) refl)
+    (drive (record { disk = disk.0; image = first_of (codes "image") rows; sizes = sizes_in rows; input = input; input_from = input_from; output = output; turn = turn.0; rounds = rounds.0; events = events; seed = seed; other_schedule = flag_in (codes "other-schedule") rows; progress = progress; status = status; from = place_in (codes "from") rows }), rw (disk.1, turn.1, rounds.1) refl)
 
 -- words that the command takes ask for something, but for both forms of a profile
 abbrev IsNamed : Shape → Type 0

@@ -5,7 +5,7 @@
 -- `profile DISK [--from K] [--to K] [--last N] [--names FILE] [--folded | --callgrind]`,
 -- `hunt IMAGE [--seeds A-B | --seconds S] [--pages P] [--harts H] [--input FILE] [--steps N] [--races] [--ignore-output] [--rows] [--keep DISK | FOLDER/] [--table FILE] [--progress SECONDS]
 -- [--names FILE] [--env NAME=VALUE]` and
--- `drive DISK [--image IMAGE] [--pages P] [--harts H] [--journal J] [--input FILE] [--input-from OFFSET] [--output FILE] [--turn N] [--rounds-per-commit R] [--events N] [--seed S]
+-- `drive DISK [--image IMAGE] [--pages P] [--harts H] [--journal J] [--input FILE] [--input-from OFFSET] [--output FILE] [--turn N] [--rounds-per-commit R] [--events N] [--seed S] [--other-schedule]
 -- [--progress SECONDS] [--status FILE] [--from OFFSET] [--names FILE] [--env NAME=VALUE]`.
 use Rattle.std.specs.Prelude.{pos, codes, fold, Some, true, List, [], ◌∷◌}
 use Rattle.clap.specs.Words.{App, Rule, Text, new_app, new_rule, with_rule, with_subcommand}
@@ -137,7 +137,7 @@ hunt_app =
 abbrev pub drive_app : App
 drive_app =
     with_rule (with_rule (with_rule (with_rule (with_rule (with_rule (with_rule (with_rule (with_rule (with_rule (with_rule (with_rule (with_rule
-    (with_rule (with_rule (with_rule (with_rule (new_app (codes "drive"))
+    (with_rule (with_rule (with_rule (with_rule (with_rule (new_app (codes "drive"))
     (needed_rule (codes "disk")))
     (option_rule (codes "image")))
     (size_rule (codes "pages")))
@@ -150,6 +150,7 @@ drive_app =
     (number_rule (codes "rounds-per-commit") (codes "16")))
     (place_rule (codes "events")))
     (place_rule (codes "seed")))
+    (flag_rule (codes "other-schedule")))
     (place_rule (codes "progress")))
     (option_rule (codes "status")))
     (place_rule (codes "from")))

@@ -84,8 +84,8 @@ pub record Hunting : Type 0 where
   pub progress : Option ℕ
 
 -- what `drive` drives: which disk, the image that a missing one is made with, its sizes, the file of its input and where that goes on, the file
--- of its output, steps of a turn, rounds between commits, after how many events it ends, the seed of its lots, at most each how many seconds it
--- tells how far it is, the file that tells it too, and below which offset output is left out
+-- of its output, steps of a turn, rounds between commits, after how many events it ends, the seed of its lots, whether another schedule than
+-- the disk's is taken, at most each how many seconds it tells how far it is, the file that tells it too, and below which offset output is left out
 pub record Driving : Type 0 where
   pub disk : Text
   pub image : Option Text
@@ -97,6 +97,7 @@ pub record Driving : Type 0 where
   pub rounds : ℕ
   pub events : Option ℕ
   pub seed : Option ℕ
+  pub other_schedule : Bool
   pub progress : Option ℕ
   pub status : Option Text
   pub from : Option ℕ
@@ -175,6 +176,7 @@ driving_of d = record {
   rounds = d.rounds;
   events = d.events;
   seed = d.seed;
+  other_schedule = d.other_schedule;
   progress = d.progress;
   status = option_map (λ path. path.now) d.status;
   from = d.from;
@@ -322,6 +324,7 @@ driving_in rows = do
     rounds = rounds;
     events = place_in (codes "events") rows;
     seed = place_in (codes "seed") rows;
+    other_schedule = flag_in (codes "other-schedule") rows;
     progress = place_in (codes "progress") rows;
     status = first_of (codes "status") rows;
     from = place_in (codes "from") rows;

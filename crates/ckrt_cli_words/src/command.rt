@@ -585,6 +585,11 @@ fn drive_arguments<'a>(alloc: Global) -> Result<Vec<Arg<'a>>, AllocError>
             "S",
             "Draw the hart and the steps of each turn at random, by this seed"
         ),
+        flag(
+            alloc,
+            "other-schedule",
+            "Go by this --turn and --seed where the disk notes others; the output may then be another"
+        ),
         place(
             alloc,
             "progress",

@@ -190,6 +190,8 @@ pub struct DriveJob<'a> {
     pub events: Option<u64>,
     /// The seed by which the hart and the steps of each turn are drawn at random; this isn't given where they go in their fixed order.
     pub seed: Option<u64>,
+    /// Whether it takes this turn and this seed where the disk notes others.
+    pub other_schedule: bool,
     /// How many seconds lie at least between two lines that tell how far it is; this isn't given where no line does.
     pub progress: Option<u64>,
     /// The path of the file that tells how far it is; this isn't given where none does.

@@ -169,6 +169,7 @@ fn driving<'a>(matches: &ArgMatches<'a>) -> Option<DriveJob<'a>>
         rounds: number(matches, "rounds-per-commit")?,
         events: place(matches, "events"),
         seed: place(matches, "seed"),
+        other_schedule: flag(matches, "other-schedule"),
         progress: place(matches, "progress"),
         status: text(matches, "status"),
         from: place(matches, "from"),

@@ -68,7 +68,7 @@ const HUNT_USAGE: &str =
 
 /// What follows a number of `drive` that isn't one.
 const DRIVE_USAGE: &str =
-    "Usage: ckrt drive <DISK> [--image <IMAGE>] [--pages 16 to 65536] [--harts 1 to 8] [--journal 4096 to 1048576 by 4096] [--input <FILE>] [--input-from OFFSET] [--output <FILE>] [--turn 1 to 1000000] [--rounds-per-commit NUMBER OF ROUNDS] [--events NUMBER OF EVENTS] [--seed NUMBER] [--progress SECONDS] [--status <FILE>] [--from OFFSET] [--names <FILE>] [--env NAME=VALUE] [-- ARGUMENTS]";
+    "Usage: ckrt drive <DISK> [--image <IMAGE>] [--pages 16 to 65536] [--harts 1 to 8] [--journal 4096 to 1048576 by 4096] [--input <FILE>] [--input-from OFFSET] [--output <FILE>] [--turn 1 to 1000000] [--rounds-per-commit NUMBER OF ROUNDS] [--events NUMBER OF EVENTS] [--seed NUMBER] [--other-schedule] [--progress SECONDS] [--status <FILE>] [--from OFFSET] [--names <FILE>] [--env NAME=VALUE] [-- ARGUMENTS]";
 
 /// What follows a number that isn't one, by the command.
 fn number_usage(words: &[&str]) -> &'static str {

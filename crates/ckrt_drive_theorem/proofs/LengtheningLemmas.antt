@@ -1,10 +1,11 @@
--- An image with zeros after its bytes: what it recovers to, and what it tells.
-use Rattle.std.proofs.Common.{◌≡◌, ◌⊎◌, inl, inr, ⊎_elim, ℕ, ◌+◌, ◌*◌, ◌-◌, ◌<◌, ◌≤◌, ◌&&◌, not, Bool, true, false, cond, nat_eq, nat_lt, nat_le, if◌then◌else◌, List, [], ◌∷◌, ◌++◌, length, take, drop, Option, Some, None, Result, Ok, Err, refl, sym, ◌∙◌, ap, subst, arith, length-append, length-drop}
+-- An image with zeros after its bytes, and with a schedule noted: what it recovers to, and what it tells.
+use Rattle.std.proofs.Common.{◌≡◌, ◌⊎◌, inl, inr, ⊎_elim, ℕ, ◌+◌, ◌*◌, ◌-◌, ◌<◌, ◌≤◌, ◌&&◌, not, Bool, true, false, cond, nat_eq, nat_lt, nat_le, if◌then◌else◌, List, [], ◌∷◌, ◌++◌, length, get_or, take, drop, Option, Some, None, Result, Ok, Err, refl, sym, ◌∙◌, ap, subst, arith, length-append, length-drop}
 use Rattle.std.specs.Prelude.{replicate}
+use Rattle.std.proofs.lemmas.Bool.{cases_lt}
 use Rattle.std.proofs.lemmas.Bool.Decides.{nat_tests}
-use Rattle.std.proofs.lemmas.List.{drop-append-le, take-append-le}
+use Rattle.std.proofs.lemmas.List.{append-nil, append_assoc, drop-append-le, get_or_append_left, get_or-append_right, replicate-append-replicate, take-append-le}
 use Rattle.ckrt_disk.specs.Disk.{IsImage}
-use Rattle.ckrt_disk.specs.Frame.{IsOnlyRead, MayBeLeft}
+use Rattle.ckrt_disk.specs.Frame.{IsOnlyRead, IsSameOutside, MayBeLeft}
 use Rattle.ckrt_disk.specs.declared.disk.Disk.{Ghosts}
 use Rattle.ckrt_events.specs.declared.event.Event.{Event}
 use Rattle.ckrt_journal.specs.Chain.{batches_of, journal_bytes}
@@ -19,17 +20,20 @@ use Rattle.ckrt_stored.specs.declared.fault.RecoverFault.TheVariants.{NotFormatt
 use Rattle.ckrt_drive.specs.Stages.{Stage}
 use Rattle.ckrt_schedule.specs.Taken.{taken_by}
 use Rattle.ckrt_stored.specs.Programs.{Program, RecoversTo}
-use Rattle.ckrt_stored.specs.Recovery.{Recovered, Recovers, in_use}
+use Rattle.ckrt_stored.specs.Recovery.{◌>>=◌, Recovered, Recovers, in_use}
+use Rattle.ckrt_stored.specs.Schedules.{IsFieldless, NotesAt}
 use Rattle.ckrt_stored.specs.Superblock.{MAGIC, is_known_superblock, superblock_in, superblock_of}
+use Rattle.ckrt_disk.proofs.Images.{image_of_image, wider_image}
+use Rattle.ckrt_stored.proofs.FieldlessLemmas as fieldless
 use Rattle.ckrt_stored.proofs.AreaLemmas.{IsInUse, is_in_use}
 use Rattle.ckrt_stored.proofs.GrowthLemmas.{used_by, uses}
 use Rattle.ckrt_stored.proofs.RecoverLemmas.{IsKnown, known, same_found, stays_by}
 use Rattle.ckrt_drive.specs.Fed.{IsFed, IsFedIn, RecoversFed}
-use Rattle.ckrt_drive.specs.Offset.{is_first, offset_from, recorded_in, saved_offset}
+use Rattle.ckrt_drive.specs.Offset.{is_first, journaled, offset_from, or_said, recorded_in, saved_offset, taken_in, with_saved}
 use Rattle.ckrt_drive.specs.declared.slot.Slot.{Slot}
 use Rattle.ckrt_drive.specs.Slot.{SLOT_BYTES, slot_at, slot_in, slot_of}
 use Rattle.ckrt_drive_theorem.specs.Drives.{StopLeaves}
-use Rattle.ckrt_drive_theorem.specs.Lengthening.{IsLengthened, IsLonger, LengthenedTells, LengtheningKeeps, RecoverLonger}
+use Rattle.ckrt_drive_theorem.specs.Lengthening.{IsLengthened, IsLonger, IsReadied, LengthenedTells, LengtheningKeeps, RecoverReadied}
 use Rattle.ckrt_drive_theorem.specs.Together.{IsLeftSince, Past, StandTogether, StandsFed}
 use Rattle.ckrt_drive_theorem.proofs.FedLemmas.{tells_from}
 use Rattle.ckrt_drive_theorem.proofs.LeftLemmas.{left_again}
@@ -180,8 +184,50 @@ module _ (short tail : List ℕ) (r : Recovered) (recovers : Recovers short (Ok 
     memory = part (memory_size was.config) (memory_at was.config was.area.index) short tail (omega (arith, lies.memory_end, kept.fits));
   }) chain_longer
 
-pub recover_longer : RecoverLonger
-recover_longer short image r longer recovers = subst (λ (l : List ℕ). Recovers l (Ok r)) (sym longer.is) (recovers_longer short (replicate longer.zeros 0) r recovers)
+-- A SCHEDULE THAT IS NOTED
+
+-- bytes put behind both leave them the same
+append_same : (region : ℕ → Type 0) (a b t : List ℕ) → IsSameOutside region a b → IsSameOutside region (a ++ t) (b ++ t)
+append_same region a b t same = record {
+  size = omega (arith, length-append a t, length-append b t, same.size);
+  same = λ i out. elim (cases_lt i (length a)) [
+    | inl lt ↦ get_or_append_left b t 0 i (omega (arith, same.size, lt)) ∙ same.same i out ∙ sym (get_or_append_left a t 0 i lt)
+    | inr past ↦ get_or-append_right b t (length a) i 0 same.size past ∙ sym (get_or-append_right a t (length a) i 0 refl past)
+  ];
+}
+
+itself : (region : ℕ → Type 0) (image : List ℕ) → IsSameOutside region image image
+itself region image = record { size = refl; same = λ i out. refl }
+
+-- with no zero behind it
+pub noted_only : (short image : List ℕ) → IsSameOutside NotesAt short image → IsReadied short image
+noted_only short image same = record { zeros = 0; same = subst (λ (l : List ℕ). IsSameOutside NotesAt l image) (sym (append-nil short)) same }
+
+pub as_it_was : (image : List ℕ) → IsReadied image image
+as_it_was image = noted_only image image (itself NotesAt image)
+
+-- with nothing noted
+pub zeros_only : (short image : List ℕ) → IsLonger short image → IsReadied short image
+zeros_only short image longer = record { zeros = longer.zeros; same = subst (λ (l : List ℕ). IsSameOutside NotesAt l image) longer.is (itself NotesAt image) }
+
+-- one after another
+pub readied_through : (short mid image : List ℕ) → IsReadied short mid → IsReadied mid image → IsReadied short image
+readied_through short mid image first second =
+    let z : List ℕ = replicate first.zeros 0 in let w : List ℕ = replicate second.zeros 0 in
+    let both : (short ++ z) ++ w ≡ short ++ replicate (first.zeros + second.zeros) 0 = append_assoc short z w ∙ ap (λ l. short ++ l) (replicate-append-replicate first.zeros second.zeros 0) in
+    record {
+      zeros = first.zeros + second.zeros;
+      same = subst (λ (l : List ℕ). IsSameOutside NotesAt l image) both (image_of_image NotesAt ((short ++ z) ++ w) (mid ++ w) image (append_same NotesAt (short ++ z) mid w first.same) second.same);
+    }
+
+-- notes are no fields
+pub no_fields : (before image : List ℕ) → IsSameOutside NotesAt before image → IsSameOutside IsFieldless before image
+no_fields before image same = wider_image NotesAt IsFieldless before image (λ i notes. (omega (arith, notes.0), omega (arith, notes.1))) same
+
+pub recover_readied : RecoverReadied
+recover_readied short image r ready recovers =
+    let longer : List ℕ = short ++ replicate ready.zeros 0 in
+    fieldless.recovers_same longer image (no_fields longer image ready.same) (Ok r) (recovers_longer short (replicate ready.zeros 0) r recovers)
 
 -- THE RECORD
 
@@ -227,41 +273,88 @@ fed_longer short tail r recovers events is =
       };
     }
 
--- A DISK THAT IS MADE LONGER
+-- where bytes have changed that are no fields of the superblock
+module _ (before image : List ℕ) (same : IsSameOutside IsFieldless before image) where
+  slot_same : (c : Config) (index : ℕ) → slot_of c index image ≡ slot_of c index before
+  slot_same c index =
+      let at = slot_at c index in
+      ap (λ n. if nat_lt n (at + SLOT_BYTES) then None else slot_in (take SLOT_BYTES (drop at image))) same.size
+      ∙ ap (λ l. if nat_lt (length before) (at + SLOT_BYTES) then None else slot_in l) (fieldless.part before image same SLOT_BYTES at (omega arith))
 
-to_longer : (p : Program) (events : List Event) (limit : ℕ) (short image : List ℕ) → IsLonger short image → RecoversTo p events limit short → RecoversTo p events limit image
-to_longer p events limit short image longer to = record { recovered = to.recovered; recovers = recover_longer short image to.recovered longer to.recovers; has_events = to.has_events; held_from = to.held_from }
+  saved_same : (c : Config) (area : Area) → saved_offset c area image ≡ saved_offset c area before
+  saved_same c area = ap (λ o. if is_first area then Some 0 else recorded_in area o) (slot_same c area.index)
 
-fed_to_longer : (p : Program) (events : List Event) (limit : ℕ) (short image : List ℕ) → IsLonger short image → RecoversFed p events limit short → RecoversFed p events limit image
-fed_to_longer p events limit short image longer fed = (
-  to_longer p events limit short image longer fed.0,
-  subst (λ (l : List ℕ). IsFed events l) (sym longer.is) (fed_longer short (replicate longer.zeros 0) fed.0.recovered fed.0.recovers events fed.1),
-)
+  journaled_same : (c : Config) (area : Area) → journaled c area image ≡ journaled c area before
+  journaled_same c area = ap (λ (l : List ℕ). batches_of area.header.version l) (fieldless.journal_same before image same c area)
+
+  fed_same : (events : List Event) → IsFed events before → IsFed events image
+  fed_same events is = record {
+    config = is.config;
+    area = is.area;
+    used = fieldless.used_same before image same ∙ is.used;
+    fed = record {
+      saved = is.fed.saved;
+      count = is.fed.count;
+      known = saved_same is.config is.area ∙ is.fed.known;
+      batches = is.fed.batches;
+      chain = journaled_same is.config is.area ∙ is.fed.chain;
+      all = is.fed.all;
+    };
+  }
+
+  told_same : (said : Option ℕ) (r : Result (Config × Area) RecoverFault)
+      → (r >>= λ u. taken_in (journaled u.0 u.1 image) >>= λ more. Ok (with_saved (or_said (saved_offset u.0 u.1 image) said) more)) ≡ (r >>= λ u. taken_in (journaled u.0 u.1 before) >>= λ more. Ok (with_saved (or_said (saved_offset u.0 u.1 before) said) more))
+  told_same said (Err e) = refl
+  told_same said (Ok u) =
+      ap (λ j. taken_in j >>= λ more. Ok (with_saved (or_said (saved_offset u.0 u.1 image) said) more)) (journaled_same u.0 u.1)
+      ∙ ap (λ o. taken_in (journaled u.0 u.1 before) >>= λ more. Ok (with_saved (or_said o said) more)) (saved_same u.0 u.1)
+
+  -- the disk tells as much of its input
+  pub tells_same : (said : Option ℕ) → offset_from said image ≡ offset_from said before
+  tells_same said =
+      ap (λ (r : Result (Config × Area) RecoverFault). r >>= λ u. taken_in (journaled u.0 u.1 image) >>= λ more. Ok (with_saved (or_said (saved_offset u.0 u.1 image) said) more)) (fieldless.used_same before image same)
+      ∙ told_same said (in_use before)
+
+-- A DISK THAT IS MADE READY
+
+to_readied : (p : Program) (events : List Event) (limit : ℕ) (short image : List ℕ) → IsReadied short image → RecoversTo p events limit short → RecoversTo p events limit image
+to_readied p events limit short image ready to = record { recovered = to.recovered; recovers = recover_readied short image to.recovered ready to.recovers; has_events = to.has_events; held_from = to.held_from }
+
+fed_to_readied : (p : Program) (events : List Event) (limit : ℕ) (short image : List ℕ) → IsReadied short image → RecoversFed p events limit short → RecoversFed p events limit image
+fed_to_readied p events limit short image ready fed =
+    let longer : List ℕ = short ++ replicate ready.zeros 0 in (
+      to_readied p events limit short image ready fed.0,
+      fed_same longer image (no_fields longer image ready.same) events (fed_longer short (replicate ready.zeros 0) fed.0.recovered fed.0.recovers events fed.1),
+    )
+
+-- whatever may be left of a disk is what might have been left of another one, made ready
+abbrev pub AreReadied : {D : Type 0} → Ghosts D → (old left : D) → Type 0
+AreReadied d old left = (image : List ℕ) → MayBeLeft d left image → (short : List ℕ) × MayBeLeft d old short × IsReadied short image
 
 module _ {D O : Type 0} (d : Ghosts D) (o : Ghosts O) where
-  stands_longer : (h : Past) (old left : D) (output : O) → IsLengthened d old left → StandTogether d o h old output → StandTogether d o h left output
-  stands_longer h old left output is stand = record {
+  pub stands_readied : (h : Past) (old left : D) (output : O) → AreReadied d old left → StandTogether d o h old output → StandTogether d o h left output
+  stands_readied h old left output is stand = record {
     images = λ image may.
-        let was = is.images image may in
+        let was = is image may in
         let t = stand.images was.0 was.1 in
-        record { all = t.all; begins = t.begins; within = t.within; to = t.to; recovers = to_longer h.program t.all t.to was.0 image was.2 t.recovers; reached = t.reached; has = t.has; spares = t.spares };
+        record { all = t.all; begins = t.begins; within = t.within; to = t.to; recovers = to_readied h.program t.all t.to was.0 image was.2 t.recovers; reached = t.reached; has = t.has; spares = t.spares };
     inside = stand.inside;
   }
 
-  fed_stands_longer : (h : Past) (file : Option (List ℕ)) (old left : D) → IsLengthened d old left → StandsFed d file h old → StandsFed d file h left
-  fed_stands_longer h None old left is stand = tt
-  fed_stands_longer h (Some bytes) old left is stand = λ image may.
-      let was = is.images image may in
+  pub fed_stands_readied : (h : Past) (file : Option (List ℕ)) (old left : D) → AreReadied d old left → StandsFed d file h old → StandsFed d file h left
+  fed_stands_readied h None old left is stand = tt
+  fed_stands_readied h (Some bytes) old left is stand = λ image may.
+      let was = is image may in
       let k = stand was.0 was.1 in
-      record { all = k.all; begins = k.begins; within = k.within; to = k.to; fed = fed_to_longer h.program k.all k.to was.0 image was.2 k.fed }
+      record { all = k.all; begins = k.begins; within = k.within; to = k.to; fed = fed_to_readied h.program k.all k.to was.0 image was.2 k.fed }
 
   pub keeps_longer : LengtheningKeeps d o
-  keeps_longer h file old left output is stand fed = (stands_longer h old left output is stand, fed_stands_longer h file old left is fed)
+  keeps_longer h file old left output is stand fed = (stands_readied h old left output is.images stand, fed_stands_readied h file old left is.images fed)
 
 pub tells_longer : {D : Type 0} (d : Ghosts D) → ((disk : D) → d.is_honest disk → IsImage (d.content disk) (d.pending disk) (d.content disk)) → LengthenedTells d
 tells_longer d reads h file old longer honest fed is said =
     let k = fed (d.content old) (reads old honest) in
-    let more = fed_to_longer h.program k.all k.to (d.content old) (d.content longer) is k.fed in
+    let more = fed_to_readied h.program k.all k.to (d.content old) (d.content longer) is k.fed in
     tells_from said k.all (d.content longer) more.1 ∙ sym (tells_from said k.all (d.content old) k.fed.1)
 
 -- READS BEFORE RECOVERY

@@ -6,6 +6,7 @@ use Rattle.ckrt_disk.specs.declared.disk.Disk.{Ghosts}
 use Rattle.ckrt_stored.specs.declared.fault.RecoverFault.{RecoverFault}
 use Rattle.ckrt_stored.specs.declared.fault.RecoverFault.TheVariants as recover
 use Rattle.ckrt_stored.specs.Recovery.{Recovered, Recovers}
+use Rattle.ckrt_stored.specs.Schedules.{schedule_of}
 use Rattle.ckrt_stored.specs.Superblock.{note_of}
 use Rattle.ckrt_stored.specs.Past.{HasPast}
 use Rattle.ckrt_stored.specs.declared.progress.Progress.{Progress}
@@ -38,7 +39,8 @@ pub record IsListed (shown : Shown) (image : List ℕ) (old new : Option (List �
   pub recovered : Recovered
   pub recovers : RecoversAt shown.at image recovered
   pub written : Appends old new
-      (disk_listing shown.with_code recovered.count recovered.state (note_of image))
+      (disk_listing shown.with_code recovered.count recovered.state (note_of image)
+      (schedule_of image))
 
 -- what a fault says of the image; Device, OutOfMemory and Write say nothing of it
 abbrev pub IsFaultOf : Option ℕ → List ℕ → InspectFault → Type 0

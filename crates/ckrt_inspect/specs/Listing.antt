@@ -22,6 +22,7 @@ use Rattle.ckrt_calls.specs.declared.table.Tables.{Tables}
 use Rattle.ckrt_machine.specs.Steps.{State}
 use Rattle.hex.specs.Hex.{encode_lower}
 use Rattle.ckrt_stored.specs.declared.note.ProgramNote.{ProgramNote}
+use Rattle.ckrt_stored.specs.declared.schedule.ScheduleNote.{ScheduleNote}
 use Rattle.ckrt_inspect.specs.Texts.{flag_text, hex_text, kind_text, reason_text, status_text}
 use Rattle.ckrt_inspect.specs.Code.{code_lines}
 
@@ -178,6 +179,18 @@ program_line None = []
 program_line (Some note) =
     codes "program " ++ encode_lower note.digest ++ codes " " ++ decimal note.bytes ++ codes "\n"
 
--- the same program, as a disk with this note has it
-abbrev pub disk_listing : (with_code : Bool) (count : ℕ) → State → Option ProgramNote → List ℕ
-disk_listing with_code count s note = listing_by with_code count s ++ program_line note
+-- the seed of a schedule, behind its turn
+abbrev pub seed_text : Option ℕ → List ℕ
+seed_text None = []
+seed_text (Some seed) = codes " " ++ decimal seed
+
+-- `schedule TURN` or `schedule TURN SEED`, where the disk notes its schedule
+abbrev pub schedule_line : Option ScheduleNote → List ℕ
+schedule_line None = []
+schedule_line (Some s) = codes "schedule " ++ decimal s.turn ++ seed_text s.seed ++ codes "\n"
+
+-- the same program, as a disk with these notes has it
+abbrev pub disk_listing : (with_code : Bool) (count : ℕ) → State → Option ProgramNote
+    → Option ScheduleNote → List ℕ
+disk_listing with_code count s note schedule =
+    listing_by with_code count s ++ program_line note ++ schedule_line schedule

@@ -2,6 +2,7 @@
 ghost use Rattle.std.specs.Prelude.{◌≡◌, ◌≢◌, IfErr, IfOk, None, Some, false};
 ghost use Rattle.ckrt_disk.specs.Frame.{IsOnlyRead};
 ghost use Rattle.ckrt_inspect.specs.declared.fault.InspectFault.TheVariants.{Device, Range, Write as Writing};
+ghost use Rattle.ckrt_stored.specs.Schedules.{schedule_of};
 ghost use Rattle.ckrt_stored.specs.Superblock.{note_of};
 ghost use Rattle.ckrt_inspect.specs.Inspect.{AgreesAt, IsInspected, Tells, is_device};
 
@@ -9,7 +10,9 @@ use crate::fault::InspectFault;
 use crate::listing::write_disk_listing;
 use crate::shown::Shown;
 use ckrt_disk::Disk;
-use ckrt_stored::{ProgramNote, Progress, read_note, read_past, read_progress};
+use ckrt_stored::{
+    ProgramNote, Progress, ScheduleNote, read_note, read_past, read_progress, read_schedule,
+};
 use std::alloc::Global;
 use std::io::Write;
 
@@ -78,8 +81,21 @@ fn noted<D: Disk>(disk: &mut D) -> Result<Option<ProgramNote>, InspectFault>
     }
 }
 
+/// What a disk notes of its schedule.
+fn noted_schedule<D: Disk>(disk: &mut D) -> Result<Option<ScheduleNote>, InspectFault>
+    ensures exact { IfOk result
+        (λ schedule. D.is_honest disk.new → schedule ≡ schedule_of (D.content disk.old)) }
+    ensures read { IsOnlyRead D.Disk disk.old disk.new (is_device result) }
+    ensures device { IfErr result (λ e. e ≡ Device) }
+{
+    match read_schedule(disk) {
+        Ok(schedule) => Ok(schedule),
+        Err(_) => Err(InspectFault::Device),
+    }
+}
+
 /// Lists what a disk's content recovers to, or what it recovered to after that many events, with or without code: recovers
-/// it, without a sync, and writes the listing, with what the disk notes of its program. The disk is only read: it is neither written nor synced, at any moment.
+/// it, without a sync, and writes the listing, with what the disk notes of its program and of its schedule. The disk is only read: it is neither written nor synced, at any moment.
 ///
 /// # Errors
 ///
@@ -100,7 +116,8 @@ pub fn inspect_with<D: Disk, W: Write>(
 {
     let progress = read_program(alloc, disk, shown.at)?;
     let note = noted(disk)?;
-    write_disk_listing(alloc, shown.with_code, &progress, &note, writer)
+    let schedule = noted_schedule(disk)?;
+    write_disk_listing(alloc, shown.with_code, &progress, &note, &schedule, writer)
 }
 
 /// Lists what a disk's content recovers to: [`inspect_with`], with nothing but the plain listing. The disk isn't handed

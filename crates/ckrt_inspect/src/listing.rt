@@ -3,7 +3,7 @@ ghost use Rattle.std.specs.Prelude.{◌≡◌, ◌≢◌, ◌⊎◌, ◌++◌, f
 ghost use Rattle.std.specs.Io.KnownBytes.{Appends};
 ghost use Rattle.hex.specs.Hex.{encode_lower};
 ghost use Rattle.ckrt_inspect.specs.declared.fault.InspectFault.TheVariants.{OutOfMemory, Write as Writing};
-ghost use Rattle.ckrt_inspect.specs.Listing.{clock_line, disk_listing, events_line, head_lines, listing_by, program_line, status_line};
+ghost use Rattle.ckrt_inspect.specs.Listing.{clock_line, disk_listing, events_line, head_lines, listing_by, program_line, schedule_line, seed_text, status_line};
 
 use crate::fault::InspectFault;
 use crate::keys::push_all_keys;
@@ -12,7 +12,7 @@ use crate::texts::{push, push_number, push_status};
 use crate::threads::push_all_threads;
 use ckrt_calls::{Status, Tables};
 use ckrt_machine::Machine;
-use ckrt_stored::{ProgramNote, Progress};
+use ckrt_stored::{ProgramNote, Progress, ScheduleNote};
 use std::alloc::{AllocError, Global};
 use std::io::Write;
 
@@ -80,6 +80,38 @@ fn push_program(out: &mut Vec<u8>, note: &Option<ProgramNote>) -> Result<(), All
     }
 }
 
+/// The seed of a schedule, behind its turn, if it has one.
+fn push_seed(out: &mut Vec<u8>, seed: Option<u64>) -> Result<(), AllocError>
+    ensures { OnOk result (out.new.items ≡ out.old.items ++ seed_text seed) }
+{
+    match seed {
+        Some(seed) => {
+            push(out, b" ")?;
+            push_number(out, seed)
+        }
+        None => Ok(()),
+    }
+}
+
+fn push_schedule_note(out: &mut Vec<u8>, schedule: &ScheduleNote) -> Result<(), AllocError>
+    ensures { OnOk result (out.new.items ≡ out.old.items ++ schedule_line (Some schedule.now)) }
+{
+    push(out, b"schedule ")?;
+    push_number(out, schedule.turn)?;
+    push_seed(out, schedule.seed)?;
+    push(out, b"\n")
+}
+
+/// What a disk notes of its schedule, if it does.
+fn push_schedule(out: &mut Vec<u8>, schedule: &Option<ScheduleNote>) -> Result<(), AllocError>
+    ensures { OnOk result (out.new.items ≡ out.old.items ++ schedule_line schedule.now) }
+{
+    match schedule {
+        Some(schedule) => push_schedule_note(out, schedule),
+        None => Ok(()),
+    }
+}
+
 /// The listing of a program after that many events.
 fn listing(
     alloc: Global,
@@ -127,21 +159,24 @@ pub(crate) fn write_listing_by<W: Write>(
     write_text(writer, &text)
 }
 
-/// The same of the program of a disk, with what that notes of it.
+/// The same of the program of a disk, with what that notes of it and of its schedule.
 pub(crate) fn write_disk_listing<W: Write>(
     alloc: Global,
     with_code: bool,
     progress: &Progress,
     note: &Option<ProgramNote>,
+    schedule: &Option<ScheduleNote>,
     writer: &mut W,
 ) -> Result<(), InspectFault>
     ensures ok { OnOk result (Appends (W.contents writer.old) (W.contents writer.new)
-        (disk_listing with_code progress.now.count progress.now.machine.state note.now)) }
+        (disk_listing with_code progress.now.count progress.now.machine.state note.now
+        schedule.now)) }
     ensures fault { IfErr result (λ e. (e ≡ OutOfMemory) ⊎ (e ≡ Writing)) }
     ensures unwritten { IfErr result (λ e. e ≢ Writing → writer.new ≡ writer.old) }
 {
     let mut text = listing(alloc, with_code, progress.count, &progress.machine)?;
     push_program(&mut text, note)?;
+    push_schedule(&mut text, schedule)?;
     write_text(writer, &text)
 }
 

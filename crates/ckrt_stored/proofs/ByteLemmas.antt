@@ -26,7 +26,7 @@ part_of image at bytes k n room has =
     ∙ ap (λ (l : List ℕ). take n l) (drop-drop k at image))
 
 -- n bytes of the first ones
-part_in : (image : List ℕ) (m k n : ℕ) → k + n ≤ m → take n (drop k (take m image)) ≡ take n (drop k image)
+pub part_in : (image : List ℕ) (m k n : ℕ) → k + n ≤ m → take n (drop k (take m image)) ≡ take n (drop k image)
 part_in image m k n room =
     let split : m ≡ k + (m - k) = omega arith in
     ap (λ x. take n (drop k (take x image))) split ∙ ap (λ (l : List ℕ). take n l) (drop-take k (m - k) image) ∙ take-take n (m - k) (drop k image) (omega arith)

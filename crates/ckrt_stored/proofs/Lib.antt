@@ -15,6 +15,8 @@ pub mod PageLemmas
 mod SaveLemmas
 mod FormatLemmas
 mod NoteLemmas
+pub mod FieldlessLemmas
+pub mod ScheduleLemmas
 mod FillLemmas
 pub mod EmptyingLemmas
 pub mod RowLemmas

@@ -15,4 +15,5 @@ pub mod Fields
 pub mod Format
 pub mod Past
 pub mod Filling
+pub mod Schedules
 pub mod Emptying

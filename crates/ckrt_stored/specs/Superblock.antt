@@ -38,10 +38,15 @@ superblock_of image = if nat_lt (length image) 32 then Err NotFormatted else sup
 abbrev pub note_for : (guest : List ℕ) → ProgramNote
 note_for guest = record { digest = sha256 guest; bytes = length guest }
 
--- the note that a superblock's first 72 bytes have: where the gate is open, and the version is the one that has it
+-- the superblock has notes: its gate is open, and its version is the one that has them
+abbrev pub has_notes : List ℕ → Bool
+has_notes block =
+    is_open block && (nat_eq (number_at 8 8 block) MAGIC && nat_eq (number_at 4 16 block) 3)
+
+-- the note that a superblock's first 72 bytes have, where it has notes
 abbrev pub note_in : List ℕ → Option ProgramNote
 note_in block =
-    if is_open block && (nat_eq (number_at 8 8 block) MAGIC && nat_eq (number_at 4 16 block) 3)
+    if has_notes block
     then Some (record { digest = take 32 (drop 32 block); bytes = number_at 8 64 block })
     else None
 

@@ -2,7 +2,7 @@
 ghost use Rattle.std.specs.Prelude.{◌≡◌, ◌≢◌, Err, ◌≤◌, length, IfOk, true};
 ghost use Rattle.ckrt_stored.specs.declared.fault.RecoverFault.TheVariants.{Device, OutOfMemory};
 ghost use Rattle.ckrt_stored.specs.Layout.{is_valid, size_needed};
-ghost use Rattle.ckrt_stored.specs.Superblock.{config_within, note_in, superblock_in, superblock_fields};
+ghost use Rattle.ckrt_stored.specs.Superblock.{config_within, has_notes, note_in, superblock_in, superblock_fields};
 ghost use Rattle.ckrt_stored.specs.Recovery.{Agrees, Is};
 
 use crate::config::Config;
@@ -66,15 +66,22 @@ pub(crate) fn superblock(size: usize, block: &[u8]) -> Result<Config, RecoverFau
     Ok(config)
 }
 
+/// Whether a superblock has notes.
+pub(crate) fn has_notes(block: &[u8]) -> bool
+    requires { 72 ≤ length block.now }
+    ensures { result ≡ has_notes block.now }
+{
+    block[0] == OPEN
+        && number_64(block, FIELDS_AT) == MAGIC
+        && number_32(block, 16) == NOTED_VERSION
+}
+
 /// The note that a superblock's first 72 bytes have, if they have one.
 pub(crate) fn note_in(block: &[u8]) -> Option<ProgramNote>
     requires { length block.now ≡ 72 }
     ensures { result ≡ note_in block.now }
 {
-    if block[0] != OPEN
-        || number_64(block, FIELDS_AT) != MAGIC
-        || number_32(block, 16) != NOTED_VERSION
-    {
+    if !has_notes(block) {
         return None;
     }
     let mut digest = [0; 32];

@@ -2,6 +2,7 @@
 ghost use Rattle.ckrt_stored.specs.Frame.{IsFramed, IsNoteApart, IsSpareFree, IsSwitched};
 ghost use Rattle.ckrt_stored.specs.Past.{PastFaultIsWhole};
 ghost use Rattle.ckrt_stored.specs.Recovery.{RecoversOnce};
+ghost use Rattle.ckrt_stored.specs.Schedules.{AreFieldlessFree};
 
 /// An image recovers to one thing only.
 pub fn images_recover_once()
@@ -22,6 +23,12 @@ pub fn spare_bytes_are_free()
 /// What a disk notes of its program stands in its first 72 bytes, which nothing but formatting writes.
 pub fn note_stands_in_the_superblock()
     ensures { IsNoteApart }
+{}
+
+/// The bytes behind the fields of the superblock and before the first area, where schedules are noted, don't matter to what an
+/// image recovers to, its faults too, nor to the program that it notes.
+pub fn fieldless_bytes_are_free()
+    ensures { AreFieldlessFree }
 {}
 
 /// An image recovers to the state that its newest open area holds, where the area's journal has no batch.

@@ -34,6 +34,7 @@ mod laws;
 mod layout;
 mod memory;
 mod note;
+mod noting;
 mod objects;
 mod past;
 mod picking;
@@ -41,6 +42,7 @@ mod progress;
 mod reading;
 mod replay;
 mod save_point;
+mod schedule;
 mod tables;
 mod threads;
 mod writing;
@@ -56,16 +58,19 @@ pub use filling::{SMALLEST_DISK, fill_up};
 pub use formatting::format;
 pub use header::Header;
 pub use laws::{
-    images_recover_once, newest_area_takes_over, note_stands_in_the_superblock,
-    past_of_an_image_has_its_faults, spare_bytes_are_free, unused_area_is_free,
+    fieldless_bytes_are_free, images_recover_once, newest_area_takes_over,
+    note_stands_in_the_superblock, past_of_an_image_has_its_faults, spare_bytes_are_free,
+    unused_area_is_free,
 };
 pub use layout::{COUNT_LIMIT, FIELDS_AT, SUPERBLOCK_VERSION};
 pub use memory::restore_memory;
 pub use note::{ProgramNote, note_for};
+pub use noting::{note_schedule, read_schedule};
 pub use past::read_past;
 pub use picking::{checked_area, pick_area, read_header};
 pub use progress::Progress;
 pub use reading::{ends_in_range, read_in_use, read_note, read_progress};
 pub use save_point::SavePoint;
+pub use schedule::ScheduleNote;
 pub use tables::restore_tables;
 pub use writing::write_area;

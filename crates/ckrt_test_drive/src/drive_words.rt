@@ -42,7 +42,7 @@ const DRIVEN_ON: &[Step] = &[
     ),
     Holds("drive_a.out", b""),
     Ends(
-        "drive drive_a.disk --output drive_a.out",
+        "drive drive_a.disk --output drive_a.out --other-schedule",
         "",
         "ended: exit 0\n",
         0,

@@ -6,7 +6,7 @@ use ckrt_test_data::IMAGE;
 
 /// The listing of a program that hasn't begun.
 const FRESH: &str =
-    "events 0\nclock 0\nstatus running\nhart 0 idle\nthread 1 joinable ready pc 00001000 enabled deferred none handlers 0\nprogram 0e6376304a4316bffed9623510f220e728ef4485ff15af18d591aff9d191d3e4 24\n";
+    "events 0\nclock 0\nstatus running\nhart 0 idle\nthread 1 joinable ready pc 00001000 enabled deferred none handlers 0\nprogram 0e6376304a4316bffed9623510f220e728ef4485ff15af18d591aff9d191d3e4 24\nschedule 1000000\n";
 
 const OTHER_SIZES: &str =
     "the disk making_a.disk: it has --pages 16 --harts 1 --journal 4096: these stay; give them, or leave them out\nckrt: BadConfig\n";

@@ -1,16 +1,16 @@
 -- A run whose job didn't fail came to its drive.
 use Rattle.std.proofs.Common.{◌≡◌, inl, inr, ℕ, Bool, true, false, List, Option, Some, None, Result, Ok, Err, refl, sym, ◌∙◌, ap, subst}
 use Rattle.std.specs.Prelude.{◌≢◌}
-use Rattle.ckrt_stored.specs.declared.config.Config.{Config}
 use Rattle.ckrt_disk.specs.Frame.{IsOnlyRead}
 use Rattle.ckrt_disk.specs.declared.disk.DeviceFault.{DeviceFault}
 use Rattle.ckrt_disk.specs.declared.disk.Disk.{Ghosts}
 use Rattle.std.specs.Prelude.{is_err, is_some}
 use Rattle.ckrt_drive.specs.declared.options.Options.{Options}
-use Rattle.ckrt_cli_disk.specs.Driving.{DrivesFound, DrivesInRange, DrivesInto, DrivesLooked, DrivesOpened, DrivesOpenedOutput, DrivesPath, DrivesSupplied, DrivesToward, IsAsked, Means, ready}
+use Rattle.ckrt_cli_disk.specs.Driving.{DrivesBehindNote, DrivesFound, DrivesInRange, DrivesInto, DrivesLooked, DrivesOpened, DrivesOpenedOutput, DrivesPath, DrivesSupplied, DrivesToward, IsAsked, Means, ready}
 use Rattle.ckrt_recovery.specs.Recovered.{IsRecovered}
 use Rattle.ckrt_cli_disk.specs.Feeding.{Supplies}
 use Rattle.ckrt_cli_disk.specs.Missing.{FindsDisk}
+use Rattle.ckrt_cli_disk.specs.Noting.{Notes, asked_schedule}
 use Rattle.ckrt_cli_disk.specs.declared.feeding.Supplied.{Supplied}
 use Rattle.ckrt_cli_reports.specs.Outside.{Outside}
 use Rattle.ckrt_cli_reports.specs.Ranges.{config_for, is_in_range}
@@ -24,7 +24,7 @@ use Rattle.ckrt_cli_files.specs.declared.output.OpenedOutput.{OpenedOutput}
 use Rattle.ckrt_cli_words.specs.Jobs.{Driving, drive, request_of_words}
 use Rattle.ckrt_cli_words.specs.declared.job.WordsFault.{WordsFault}
 use Rattle.ckrt_cli_words.specs.declared.job.WordsFault.TheVariants as words
-use Rattle.ckrt_cli.specs.Coming.{Came, Fed, Sized, in_range, of_fed, of_found, of_looked, of_path, of_sized, onto_fitting, onto_opened, set}
+use Rattle.ckrt_cli.specs.Coming.{Came, Fed, Sized, in_range, noted, of_fed, of_found, of_looked, of_noted, of_path, of_sized, onto_fitting, onto_opened, set}
 use Rattle.ckrt_cli.specs.Commands.{asked_or, of_request, of_words}
 
 module _ {D W : Type 0} {d : Ghosts D} (means : Means d W) (j : Driving) where
@@ -44,19 +44,19 @@ module _ {D W : Type 0} {d : Ghosts D} (means : Means d W) (j : Driving) where
     Says None = (fault : JobFault) × (result ≡ Err fault)
     Says (Some came) = Facts path new came
 
-    by_fitting : (fed : Fed d means.sources j) → Finds fed.sized.found → (session : Session D d) → (recovered : IsRecovered d fed.it.disk session) → (output : OpenedOutput D) → (is_opened : means.sources.Outputs path output)
+    by_fitting : (fed : Fed d means.sources j) → Finds fed.sized.found → (session : Session D d) → (recovered : IsRecovered d fed.disk session) → (output : OpenedOutput D) → (is_opened : means.sources.Outputs path output)
         → (drives : DrivesOpenedOutput output fed.sized.options (ready session fed.it.intake) (with_output fed.asked (opened path)) new result)
         → Says (onto_fitting means j path named result fed new session recovered output is_opened drives)
     by_fitting fed finds session recovered output is_opened (inl refuses) = (_, refuses.is)
     by_fitting fed finds session recovered output is_opened (inr takes) = record { finds = finds; asked = with_output fed.asked (opened path); closes = takes.drives.closes; kept = takes.drives.kept }
 
-    by_output : (fed : Fed d means.sources j) → Finds fed.sized.found → (session : Session D d) → (recovered : IsRecovered d fed.it.disk session)
+    by_output : (fed : Fed d means.sources j) → Finds fed.sized.found → (session : Session D d) → (recovered : IsRecovered d fed.disk session)
         → (drives : DrivesInto (means.sources.Outputs path) path fed.sized.options (ready session fed.it.intake) fed.asked new result)
         → Says (onto_opened means j path named result fed new session recovered drives)
     by_output fed finds session recovered (inl lacks) = (_, lacks.is)
     by_output fed finds session recovered (inr opens) = by_fitting fed finds session recovered opens.output opens.is_opened opens.drives
 
-    by_fed : (fed : Fed d means.sources j) → Finds fed.sized.found → (drives : DrivesOpened (set means j path named result fed.sized.options) fed.it fed.asked new result) → Says (of_fed means j path named result fed new drives)
+    by_fed : (fed : Fed d means.sources j) → Finds fed.sized.found → (drives : DrivesOpened (set means j path named result fed.sized.options) (noted fed) fed.asked new result) → Says (of_fed means j path named result fed new drives)
     by_fed fed finds (inl lacks) = (_, lacks.is)
     by_fed fed finds (inr drives) =
         by_output fed finds drives.session drives.recovered
@@ -65,15 +65,22 @@ module _ {D W : Type 0} {d : Ghosts D} (means : Means d W) (j : Driving) where
         result)
         named drives.drives)
 
+    by_noted : (sized : Sized d j) → Finds sized.found → (before asked : Openings D) → (it : Supplied D) → (supplies : Supplies d means.sources j.input j.input_from sized.looked before asked (Ok it))
+        → (disk : D) → (answer : Result (Unit {0}) DeviceFault) → (notes : Notes d (asked_schedule j) it.disk disk answer)
+        → (ends : DrivesBehindNote (set means j path named result sized.options) (record { disk = disk; intake = it.intake }) asked new result answer)
+        → Says (of_noted means j path named result sized before asked new it supplies disk answer notes ends)
+    by_noted sized finds before asked it supplies disk (Err failed) notes ends = (_, ends.0)
+    by_noted sized finds before asked it supplies disk (Ok done) notes ends =
+        by_fed (record { sized = sized; before = before; asked = asked; it = it; supplies = supplies; disk = disk; notes = notes }) finds ends
+
     by_sized : (sized : Sized d j) → Finds sized.found → (before asked : Openings D) → (got : Result (Supplied D) JobFault)
         → (supplies : Supplies d means.sources j.input j.input_from sized.looked before asked got)
         → (ends : DrivesSupplied (set means j path named result sized.options) asked new result got)
         → Says (of_sized means j path named result sized before asked new got supplies ends)
     by_sized sized finds before asked (Err fault) supplies ends = (_, ends.0)
-    by_sized sized finds before asked (Ok it) supplies ends =
-        by_fed (record { sized = sized; before = before; asked = asked; it = it; supplies = supplies }) finds ends
+    by_sized sized finds before asked (Ok it) supplies ends = by_noted sized finds before asked it supplies ends.disk ends.answer ends.notes ends.drives
 
-    by_looked : (options : Options) (asks : IsAsked j options) (found looked : D) → Finds found → (old : Openings D) → (other : Result (Option Config) DeviceFault)
+    by_looked : (options : Options) (asks : IsAsked j options) (found looked : D) → Finds found → (old : Openings D) → (other : Result (Option JobFault) DeviceFault)
         → (sized : IsOnlyRead d found looked (is_err other))
         → (drives : DrivesLooked (set means j path named result options) looked old new result other)
         → Says (of_looked means j path named result options asks found looked old new other sized drives)

@@ -2,10 +2,11 @@
 use Rattle.std.proofs.Common.{◌≡◌, ℕ, List, [], Some, refl, sym, subst}
 use Rattle.ckrt_disk.specs.Frame.{MayBeLeft}
 use Rattle.ckrt_disk.specs.declared.disk.Disk.{Ghosts}
-use Rattle.ckrt_drive_theorem.specs.Lengthening.{IsLonger}
+use Rattle.ckrt_drive_theorem.specs.Lengthening.{IsReadied}
 use Rattle.ckrt_drive_theorem.specs.Together.{past}
 use Rattle.ckrt_drive_theorem.proofs.FedLemmas.{formatted_fed}
 use Rattle.ckrt_drive_theorem.proofs.LeftLemmas.{stands_formatted}
+use Rattle.ckrt_drive_theorem.proofs.LengtheningLemmas.{zeros_only}
 use Rattle.ckrt_stored.specs.Programs.{Program, RecoversToStart}
 use Rattle.ckrt_witness.specs.Lengthened.{Lengthens, LongerWitness}
 use Rattle.ckrt_witness.proofs.WitnessLemmas.{only_image}
@@ -21,7 +22,7 @@ longer_met d o p file old longer output it durable =
       output = output;
       disks = it;
       lengthened = record {
-        images = λ image may. (d.content old, record { size = refl; same = λ i out. refl }, subst (IsLonger (d.content old)) (sym (only_image d longer image it.settled_longer may)) it.zeros);
+        images = λ image may. (d.content old, record { size = refl; same = λ i out. refl }, subst (IsReadied (d.content old)) (sym (only_image d longer image it.settled_longer may)) (zeros_only (d.content old) (d.content longer) it.zeros));
         inside = λ i is. absurd (it.settled_longer i is);
       };
       stands = stands_formatted d o p old output made durable;

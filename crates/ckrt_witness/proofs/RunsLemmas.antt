@@ -176,7 +176,7 @@ module _ {S D W : Type 0} {d : Ghosts D} (reach : S → Reach d W) (words : List
     keeps =
         let f = came_here.2 in
         let r = came_here.0.run in
-        let i = has_input d it.others asked.input ran.gives.longer (record { disk = r.start; intake = r.intake }) j.input asked.with_input j.input_from came_here.0.looked came_here.0.before came_here.0.asked came_here.0.supplies in
+        let i = has_input d it.others asked.input ran.gives.longer (record { disk = came_here.0.supplied; intake = r.intake }) j.input asked.with_input j.input_from came_here.0.looked came_here.0.before came_here.0.asked came_here.0.supplies in
         record {
           found_disk = found_there (means_in it ran.old ran.new j) j disk (ran.gives.disks j.disk) (ran.gives.fills j.disk _) came_here.0.found asked.without_image f.finds;
           found_output = came_here.0.onto ∙ ran.gives.outputs asked.output came_here.0.output came_here.0.is_opened;

@@ -10,6 +10,7 @@ from model.feeding import COUNTERS, RECORD_LENGTH, Supply, Undriven, taken_of
 from model.layout import format_disk
 from model.lines import serve_disk
 from model.plans import Drive, require_fit
+from model.schedules import require_schedule
 from model.session import Session
 
 TIME_LIMIT = 60
@@ -56,16 +57,16 @@ def drive_of_model(disk, output, options, tally, feeding, whole, path):
     if feeding.is_out_of_range:
         return 1, [Undriven("Range")]
     if feeding.way not in PLAIN:
-        return 1, [Undriven("File", path), *faults_of_start(disk, output, feeding)]
+        return 1, [Undriven("File", path), *faults_of_start(disk, output, feeding, options=options)]
     data = feeding.data(whole)
     try:
         return Drive(MemoryDisk(disk), output, options, tally, data, feeding.said).run(), []
     except Undriven:
-        return 1, faults_of_start(disk, output, feeding, data)
+        return 1, faults_of_start(disk, output, feeding, data, options)
 
 
-def faults_of_start(disk, output, feeding, data=None):
-    """Of the output and of the input, each looked at alone. Nothing is known of the length of an input without data."""
+def faults_of_start(disk, output, feeding, data=None, options=None):
+    """Of the output, of the input and of the schedule, each looked at alone. Nothing is known of the length of an input without data."""
     session = Session(MemoryDisk(bytearray(disk)))
     looks = {"output": lambda: require_fit(session, len(output)), "offset": lambda: taken_of(session.disk, session.recovered, feeding.said),
              "input": lambda: Supply(session, data, feeding.said)}
@@ -73,6 +74,9 @@ def faults_of_start(disk, output, feeding, data=None):
     for which in ["output", *["offset" if data is None else "input"] * feeding.is_fed]:
         with catching(found):
             looks[which]()
+    if options is not None:
+        with catching(found):
+            require_schedule(disk, options.schedule, options.is_other)
     return found
 
 

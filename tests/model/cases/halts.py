@@ -1,6 +1,6 @@
 """Cases of drives that are stopped at a call of their disk, with a fill over what wasn't synced, and then given again."""
 from contextlib import suppress
-from dataclasses import dataclass, field
+from dataclasses import dataclass, field, replace
 
 from cases.driven import UNFED, Feeding, contents, first_other
 from cases.drives import DrivesCase, difference_of_list, fed_case, unfed_case
@@ -8,6 +8,8 @@ from cases.tracing import Plan, traced_run
 from model.devices import DeviceFault, MemoryDisk, StoppingDisk, filled
 from model.feeding import RECORD_LENGTH
 from model.plans import Drive
+from model.schedules import NOTES_AT, Schedule
+from model.switches import SWITCHES
 
 LAST_CALL = 120  # of those at which a drive is stopped
 SYNC = None
@@ -16,8 +18,20 @@ LONGEST = 4097
 
 @dataclass
 class HaltsCase(DrivesCase):
-    """A drive for each stop, which is the number of a call and a fill, and one more that isn't stopped."""
+    """A drive for each stop, which is the number of a call and a fill, and one more that isn't stopped. `noted` is the schedule that the
+    second note has before, which is in use then."""
     stops: list = field(default_factory=list)
+    noted: Schedule | None = None
+
+    def disk(self):
+        return with_note(super().disk(), self.noted)
+
+
+def with_note(disk, schedule):
+    if schedule is not None:
+        note = schedule.encoding()
+        disk[NOTES_AT[1]:NOTES_AT[1] + len(note)] = note
+    return disk
 
 
 class HaltingDisk(StoppingDisk):
@@ -41,13 +55,16 @@ class HaltingDisk(StoppingDisk):
 
 
 def halts_case(chance, case):
-    """Mostly with an input. The disk has room for the record, so that nothing is written before recovery."""
+    """Mostly with an input. The disk has room for the record, so that nothing but the schedule is written before recovery. At times
+    another one is noted there, and mostly the drives may go by theirs then."""
     fed = fed_case(chance, unfed_case(chance, case))
     stops = [stop(chance) for _ in range(chance.choice([1, 2, 4]))]
     options = [chance.choice(fed.drives) for _ in stops] + [fed.drives[-1]]
     behind = fed.behind + bytes(max(0, RECORD_LENGTH - len(fed.behind)))
     feedings = [chance.choice([Feeding()] * 5 + [UNFED])] * len(options)
-    return HaltsCase(fed.geometry, fed.image, fed.version, options, behind, fed.data[:LONGEST], feedings, stops)
+    noted = Schedule(7, chance.choice([None, 3])) if SWITCHES.schedules and chance.random() < 0.4 else None
+    options = [replace(it, is_other=noted is not None) for it in options]
+    return HaltsCase(fed.geometry, fed.image, fed.version, options, behind, fed.data[:LONGEST], feedings, stops, noted)
 
 
 def stop(chance):

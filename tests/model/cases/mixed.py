@@ -12,6 +12,7 @@ from model.lines import serve_disk
 from model.plans import Drive, Options
 from model.recovery import events_of_journal, recover
 from model.session import Session
+from model.switches import SWITCHES
 
 EVENTS_AT_LAST = 400
 LENGTHS = [0, 64, 500, 4097, 9000]
@@ -131,7 +132,7 @@ def mixed_case(chance, case):
     fed = reading_case(chance, unfed_case(chance, case), reader)
     fed.geometry = replace(fed.geometry, journal=chance.choice([4096, 4096, 8192]))
     fed.data, fed.behind = chance.randbytes(chance.choice(LENGTHS)), chance.choice([b"", fed.behind])
-    fed.drives = [replace(options, turn=chance.choice([20, 50, 300])) for options in fed.drives]
+    fed.drives = [replace(options, turn=chance.choice([20, 50, 300]), is_other=SWITCHES.schedules) for options in fed.drives]
     mixing = Mixing(chance, fed)
     if chance.random() < 0.5:
         mixing.drive(Feeding())

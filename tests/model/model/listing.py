@@ -4,6 +4,7 @@ from model.layout import note_of
 from model.objects import MutexKind
 from model.processor import Cause
 from model.recovery import events_of_journal, read_area, recover
+from model.schedules import schedule_of
 from model.switches import SWITCHES
 from model.tables import saved_locks, saved_mutexes
 from model.texts import text_of
@@ -128,9 +129,10 @@ def earlier_state(disk, whole, at):
 
 
 def lines_of_note(contents):
-    """What tells of the disk, and not of the state: which image it was formatted with."""
-    note = note_of(contents)
-    return [] if note is None else [f"program {note[0].hex()} {note[1]}"]
+    """What tells of the disk, and not of the state: which image it was formatted with, and by which schedule it was driven."""
+    note, schedule = note_of(contents), schedule_of(contents)
+    lines = [] if note is None else [f"program {note[0].hex()} {note[1]}"]
+    return lines + ([] if schedule is None else [" ".join(["schedule", *map(str, schedule.numbers)])])
 
 
 def listing(contents, at=None, is_with_code=False):

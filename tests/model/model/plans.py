@@ -2,9 +2,12 @@
 from dataclasses import dataclass
 
 from model.events import LONG_RUN, Place, Run, RunLong, Tick, VERSION_OF_LONG_RUNS
+from model.devices import MemoryDisk
 from model.feeding import Supply, Undriven
 from model.layout import BATCH_LIMIT
+from model.schedules import Schedule, note_schedule, require_schedule
 from model.session import Session
+from model.switches import SWITCHES
 from model.threads import THREAD_IDS, Status
 
 LONGEST_BATCH = BATCH_LIMIT + 3
@@ -19,16 +22,22 @@ ENDS = {"enough": 5, "deadlock": 4, "waits for input": 3}
 
 @dataclass(frozen=True)
 class Options:
-    """`events` is how many are left to this drive, None for any number."""
+    """`events` is how many are left to this drive, None for any number; `is_other` tells that another schedule may be noted."""
     turn: int = LONG_RUN
     rounds: int = 16
     seed: int | None = None
     events: int | None = None
+    is_other: bool = False
+
+    @property
+    def schedule(self):
+        return Schedule(self.turn, self.seed)
 
     def words(self):
         words = ["--turn", self.turn, "--rounds-per-commit", self.rounds]
         words += [] if self.seed is None else ["--seed", self.seed]
         words += [] if self.events is None else ["--events", self.events]
+        words += ["--other-schedule"] if self.is_other else []
         return [str(word) for word in words]
 
 
@@ -117,6 +126,16 @@ def require_fit(session, length):
         raise Undriven("OutputDiffers", length, session.confirmed, session.released)
 
 
+def begin(disk, options, data, said):
+    """What comes before recovery: the schedule is looked at, the input is found, and then the schedule is noted."""
+    if not SWITCHES.schedules:
+        return
+    require_schedule(disk.read(0, len(disk)), options.schedule, options.is_other)
+    if data is not None:
+        Supply(Session(MemoryDisk(bytearray(disk.read(0, len(disk))))), data, said)
+    note_schedule(disk, options.schedule)
+
+
 class Drive:
     """A drive of a disk; `output` are the bytes of its file, and `data` those of its input, if it has one.
 
@@ -124,6 +143,7 @@ class Drive:
     """
 
     def __init__(self, disk, output, options, tally, data=None, said=None):
+        begin(disk, options, data, said)
         self.session, self.output, self.options = Session(disk, tally), output, options
         self.acknowledged, self.left = self.session.events, options.events
         require_fit(self.session, len(output))

@@ -6,14 +6,15 @@ from dataclasses import dataclass
 @dataclass
 class Switches:
     """`keys`: thread-specific keys, and saved tables of version 2. `long_runs`: the event of a long run, with keys alone. `programs`: disks that
-    note their image, and what is told by that; with long runs alone."""
+    note their image, and what is told by that; with long runs alone. `schedules`: disks that note the schedule of their drive; with programs alone."""
     keys: bool = False
     long_runs: bool = False
     programs: bool = False
+    schedules: bool = False
 
     def words(self):
         """The driver's options."""
-        return [word for word, is_on in (("--keys", self.keys), ("--long-runs", self.long_runs), ("--programs", self.programs)) if is_on]
+        return [f"--{name.replace('_', '-')}" for name, is_on in vars(self).items() if is_on]
 
 
 SWITCHES = Switches()

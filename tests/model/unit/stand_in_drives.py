@@ -2,16 +2,20 @@
 import os
 import stat
 from contextlib import suppress
+from dataclasses import replace
 from pathlib import Path
 
 from model import feeding
 from model import plans
+from model import schedules
 from model.devices import MemoryDisk
 from model.feeding import COUNTERS, RECORD_LENGTH, Slot, Supply, Undriven
 from model.layout import Geometry, format_disk
-from model.plans import OWNERS, Drive, Options, bounds_of, draw, owner_of, round_length, thread_for
+from model.plans import OWNERS, Drive, Options, begin, bounds_of, draw, owner_of, round_length, thread_for
+from model.schedules import IN_USE_AT, NOTES_AT, in_use, note_schedule
 
 OPTIONS = ("--turn", "--rounds-per-commit", "--seed", "--events")
+OTHER = "--other-schedule"
 SIZES = ("--pages", "--harts", "--journal")
 
 
@@ -24,6 +28,7 @@ def bytes_of_plain_file(path):
 
 def drive(path, *options, **wrong):
     """The status. A part that is named takes the place of the model's own; the disk and the output are written at the end."""
+    is_other, options = OTHER in options, [word for word in options if word != OTHER]
     words = dict(zip(options[::2], options[1::2]))
     numbers = {name: int(word) for name, word in words.items() if name in (*OPTIONS, *SIZES, "--input-from")}
     said, disk, output = numbers.get("--input-from"), Path(path), Path(words["--output"])
@@ -35,9 +40,10 @@ def drive(path, *options, **wrong):
     contents, held = bytearray(disk.read_bytes()), bytearray(output.read_bytes() if output.exists() else b"")
     plans.Supply, plans.require_fit = wrong.get("supply", Supply), wrong.get("fit", plans.require_fit)
     plans.owner_of, plans.thread_for = wrong.get("owner", owner_of), wrong.get("thread", thread_for)
-    plans.bounds_of = wrong.get("bounds", bounds_of)
+    plans.bounds_of, plans.begin = wrong.get("bounds", bounds_of), wrong.get("begin", begin)
+    schedules.note_schedule = plans.note_schedule = wrong.get("notes", note_schedule)
     try:
-        return Drive(MemoryDisk(contents), held, Options(*map(numbers.get, OPTIONS)), None, data, said).run()
+        return Drive(MemoryDisk(contents), held, Options(*map(numbers.get, OPTIONS), is_other), None, data, said).run()
     except Undriven as fault:
         raise Undriven(str(fault), *fault.told * wrong.get("tells", True)) from fault
     finally:
@@ -148,9 +154,41 @@ def drawn_of_63(options, count, machine):
     return begin, start if options.seed is None else draw(options.seed, count) // 8 % (OWNERS - 1) + 1, steps
 
 
+def obliging(disk, options, data, said):
+    """Each drive goes by its own schedule, whatever is noted."""
+    begin(disk, replace(options, is_other=True), data, said)
+
+
+def unnoted(disk, options, data, said):
+    """Looks at the schedule, and notes none."""
+    schedules.require_schedule(disk.read(0, len(disk)), options.schedule, options.is_other)
+
+
+def before_input(disk, options, data, said):
+    """Notes the schedule, and then finds the input."""
+    begin(disk, options, None, None)
+    begin(disk, options, data, said)
+
+
+def over_the_old(disk, wanted):
+    """Writes the note over the one in use."""
+    contents = disk.read(0, 4096)
+    if schedules.has_notes(contents) and schedules.schedule_of(contents) != wanted:
+        disk.write(NOTES_AT[in_use(contents)], wanted.encoding())
+
+
+def first_alone(disk, wanted):
+    """Takes the first note always."""
+    contents = disk.read(0, 4096)
+    if schedules.has_notes(contents) and schedules.schedule_of(contents) != wanted:
+        disk.write(NOTES_AT[0], wanted.encoding())
+        disk.write(IN_USE_AT, b"\1")
+
+
 WRONG_DRIVES = {"reads anything": {"reads": bytes_of_any}, "early": {"supply": Early}, "padding": {"supply": Padding},
                 "forgetful": {"supply": Forgetful}, "obedient": {"supply": Obedient}, "trusting": {"supply": Trusting},
                 "any output": {"fit": fits_always}, "silent": {"tells": False}, "owner of an event": {"owner": owner_of_event},
                 "without the tick": {"owner": owner_without_tick}, "63 owners": {"owner": one_of_63}, "empty harts alone": {"thread": onto_empty},
                 "even if it waits": {"thread": even_if_it_waits}, "without owners": {"thread": without_owners}, "unfolded": {"thread": unfolded},
-                "undrawn": {"bounds": undrawn}, "drawn of 63": {"bounds": drawn_of_63}}
+                "undrawn": {"bounds": undrawn}, "drawn of 63": {"bounds": drawn_of_63}, "obliging": {"begin": obliging}, "unnoted": {"begin": unnoted},
+                "before input": {"begin": before_input}, "over the old": {"notes": over_the_old}, "first alone": {"notes": first_alone}}

@@ -14,6 +14,7 @@ from model.switches import SWITCHES, switched
 MODEL = Path(__file__).resolve().parents[1]
 KINDS_WITH_KEYS = {"lists": 2, "fates": 2, "listings": 3, "lives": 2, "cuts": 2}
 KINDS_OF_DRIVES = {"drives": 2, "inputs": 2, "mixed": 3, "rounds": 2}
+KINDS_WITH_SCHEDULES = {"schedules": 6, "drives": 1, "inputs": 2, "mixed": 1}
 KINDS = {"lists": 4, "fates": 4, "parts": 3, "listings": 3, "lives": 2, "cuts": 8}
 SHORT_HISTORIES = [2, 4, 7, 22, 23]
 CALLS_FOUND_BY = [("without ends", 2), ("backward", 2), ("short-sighted", 13)]
@@ -26,6 +27,10 @@ DRIVES_FOUND_BY = [("reads anything", "inputs", 2), ("padding", "inputs", 2), ("
                    ("forgetful", "mixed", 1), ("obedient", "mixed", 14), ("trusting", "mixed", 3), ("any output", "mixed", 5),
                    *[(which, "rounds", 14) for which in ("owner of an event", "without the tick", "63 owners", "empty harts alone", "even if it waits",
                                                          "without owners", "unfolded", "undrawn", "drawn of 63")]]
+
+
+SCHEDULES_FOUND_BY = [("obliging", "schedules", 1), ("unnoted", "schedules", 1), ("before input", "inputs", 2), ("over the old", "schedules", 1),
+                      ("first alone", "schedules", 1), ("silent", "schedules", 1)]
 
 
 def program(folder, which, **switches):
@@ -73,6 +78,19 @@ class Driver(unittest.TestCase):
     def test_right_drives(self):
         with switched(keys=True, long_runs=True):
             self.finds_nothing(KINDS_OF_DRIVES)
+
+    def test_right_drives_with_schedules(self):
+        """Disks that note the schedule of their drive, of both sides or of one alone."""
+        with switched(keys=True, long_runs=True, programs=True, schedules=True):
+            self.finds_nothing(KINDS_WITH_SCHEDULES)
+            path = program(self.folder, "right", keys=True, long_runs=True, programs=True)
+            self.assertIsNotNone(first_difference(path, case_of("schedules", 1), self.folder, Counter(), lambda count: None))
+
+    def test_wrong_schedules(self):
+        with switched(keys=True, long_runs=True, programs=True, schedules=True):
+            for which, kind, first in SCHEDULES_FOUND_BY:
+                with self.subTest(which=which, kind=kind):
+                    self.assertTrue(any(self.difference(which, kind, seed) for seed in (first, *range(1, 25))))
 
     def test_wrong_drives(self):
         with switched(keys=True, long_runs=True):

@@ -1,8 +1,8 @@
-use Rattle.ckrt_drive_theorem.proofs.LengtheningLemmas.{keeps_longer, recover_longer, tells_longer}
+use Rattle.ckrt_drive_theorem.proofs.LengtheningLemmas.{keeps_longer, recover_readied, tells_longer}
 use Rattle.ckrt_drive_theorem.proofs.lengthening.longer_disks_are_the_same.Goals as goal
 
 pub returns-clause-recover : goal.returns-clause-recover
-returns-clause-recover g c = recover_longer
+returns-clause-recover g c = recover_readied
 
 pub returns-clause-keep : goal.returns-clause-keep
 returns-clause-keep g c = keeps_longer g.D.Disk g.O.Disk
