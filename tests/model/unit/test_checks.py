@@ -233,6 +233,11 @@ class Lines(Memory):
         words = [*back(0x1104), *freed(0x2000)]
         self.assertEqual([short(line) for line in told((2, [*nobodys(), *words]), (3, words))], ["frees 2000 in no block, 2 times"])
 
+    def test_what_is_done(self):
+        """A load at 0x105c, and a free that is called there, are two."""
+        words = [*nobodys(), *back(0x1060), *load(HEAP), *freed(HEAP + 20)]
+        self.assertEqual([line.split()[3:7:3] for line in told((2, words))], [["loads", "0000105c"], ["frees", "0000105c"]])
+
     def test_more_places(self):
         """In the order in which they came; a last line counts all others."""
         with patch("model.checks.PLACES", 2):
