@@ -16,6 +16,7 @@ from cases.formats import FormatCase
 from cases import kitted, passers
 from cases.glances import OF_BYTES, OF_KIT, OF_ORDERS, RacesCase, TimelinesCase, difference_of_races, difference_of_timelines, rules_not_met
 from cases.halts import HaltsCase, difference_of_halts
+from cases.heaped import ChecksCase, difference_of_checks
 from cases.histories import HistoriesCase, is_turned
 from cases.hunted import HuntsCase, difference_of_hunts
 from cases.images import ImagesCase, difference_of_images
@@ -327,7 +328,7 @@ def difference_behind_cut(ckrt, case, path, tally):
 OF_DISK = {
     MovedCase: difference_of_moved, SteppedCase: difference_of_stepped, LivedCase: difference_of_lived, DebuggedCase: difference_of_debugged,
     ListingsCase: difference_of_listings, HistoriesCase: difference_of_histories, TimelinesCase: difference_of_timelines,
-    ProfilesCase: difference_of_profiles, RacesCase: difference_of_races, NestedCase: difference_of_races, CutCase: difference_behind_cut,
+    ProfilesCase: difference_of_profiles, RacesCase: difference_of_races, NestedCase: difference_of_races, ChecksCase: difference_of_checks, CutCase: difference_behind_cut,
 }
 OF_FOLDER = {
     FormatCase: difference_of_format, TimedCase: difference_of_timed, RacedCase: difference_of_raced, HuntsCase: difference_of_hunts,

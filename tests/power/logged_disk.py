@@ -74,7 +74,10 @@ class Blocks(dict):
             if len(part) < BLOCK:
                 old = self.get(block, NO_BYTES)
                 part = old[:within] + part + old[within + len(part):]
-            self[block] = part
+            if part == NO_BYTES:
+                self.pop(block, None)
+            else:
+                self[block] = part
             at += BLOCK - within
 
     def read(self, offset, count):

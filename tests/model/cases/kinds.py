@@ -13,6 +13,7 @@ from cases.formats import format_case
 from cases.glances import races_case, timelines_case
 from cases.guests import Guest
 from cases.halts import halts_case
+from cases.heaped import checks_case
 from cases.histories import histories_case
 from cases.hunted import hunts_case
 from cases.images import images_case
@@ -253,7 +254,7 @@ KINDS = {
     "disks": disks_case, "killed": killed_case, "limits": limits_case, "saved": saved_case, "tables": tables_case,
     "stopped": stopped_case, "checkpoints": checkpoints_case, "formats": format_case, "lists": of_guest(lists_case),
     "fates": of_guest(fates_case), "parts": of_guest(parts_case), "listings": of_guest(listings_case), "cuts": cuts_case,
-    "histories": of_guest(histories_case), "races": of_guests(PartSharer, races_case, 0.9), "kit": kitted_case, "orders": orders_case, "nested": nested_case,
+    "histories": of_guest(histories_case), "races": of_guests(PartSharer, races_case, 0.9), "kit": kitted_case, "orders": orders_case, "nested": nested_case, "checks": checks_case,
     "timelines": of_sharers(timelines_case, 0.4),
     "hunts": hunts_case, "debugged": of_sharers(debugged_case, 0.4), "moved": of_sharers(moved_case, 0.6),
     "stepped": of_sharers(stepped_case, 0.6),

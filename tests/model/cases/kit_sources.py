@@ -104,3 +104,39 @@ class Source:
         begin, end = self.chance.choice(ways)
         inner = [line for _ in range(self.chance.choice([1, 2])) for line in self.chance.choice([self.access, self.ordered, self.between])()]
         return [begin, *inner, end]
+
+
+class Heaps(Source):
+    """Its threads take blocks, use them and give them back. Some uses are wrong: loads beside a block and of one that was given back, and stores to
+    bytes behind its last one that share a word with it. Some blocks are never given back."""
+
+    def block(self, count):
+        return "".join(f"    {line}\n" for _ in range(count) for line in self.chance.choice([self.taken, self.taken, self.moved, self.guarded, self.printed])())
+
+    def taken(self):
+        self.names += 1
+        name, size = f"block_{self.names}", self.chance.choice([1, 2, 3, 5, 6, 8, 13, 31])
+        made = self.chance.choice([f"malloc({size})", f"calloc(1, {size})", f"aligned_alloc(32, {size})"])
+        return [f"volatile char *volatile {name} = {made};", *self.used(name, size), *self.given_back(name, size)]
+
+    def used(self, name, size):
+        """The first and the last byte, and now and then one that isn't the block's."""
+        lines, chance = [f"{name}[0] = 1;", f"if ({name}[{size - 1}] > 99) exit(1);"], self.chance
+        if chance.random() < 0.3:
+            lines.append(f"if ({name}[{chance.choice([-4, -1, size, size + 1, size + 6])}] == 77) exit(1);")
+        if chance.random() < 0.3 and size % 4:
+            lines.append(f"{name}[{size}] = 1;")
+        return lines
+
+    def given_back(self, name, size):
+        if self.chance.random() < 0.2:
+            return []
+        return [f"free((void *){name});", *([f"if ({name}[{self.chance.randrange(size)}] == 77) exit(1);"] if self.chance.random() < 0.3 else [])]
+
+    def moved(self):
+        """By `realloc`, to more bytes or to less."""
+        self.names += 1
+        name, sizes = f"moved_{self.names}", self.chance.choices([1, 4, 7, 12, 30, 60], k=2)
+        loads = [f"if ({name}[{sizes[0] - 1}] == 77) exit(1);"] if self.chance.random() < 0.4 else []
+        return [f"volatile char *volatile {name} = malloc({sizes[0]});", f"volatile char *volatile {name}_again = realloc((void *){name}, {sizes[1]});",
+                *self.used(f"{name}_again", sizes[1]), *loads, *self.given_back(f"{name}_again", sizes[1])]

@@ -31,10 +31,14 @@ class Nested:
         for name in [None, *names]:
             if name:
                 self.program.label(name)
-            for _ in range(PIECES):
-                self.program.add(self.piece())
-            self.program.add(call_words(Call.THREAD_EXIT, 0))
+            self.add_pieces(name)
         self.image = image_of(self.program.words())
+
+    def add_pieces(self, name):
+        """Those of a thread."""
+        for _ in range(PIECES):
+            self.program.add(self.piece())
+        self.program.add(call_words(Call.THREAD_EXIT, 0))
 
     def code(self):
         """Behind a call, mostly."""
@@ -51,7 +55,11 @@ class Nested:
             words += load_number(register, value) if chance.random() < 0.6 else []
         for _ in range(chance.choice([0, 2, 4])):
             words += [*load_number(3, chance.choice(STACK)), *load_number(4, chance.choice([self.code, self.code, self.frame])()), store_word(4, 0, 3)]
-        words += load_number(3, SHARED + 4 * chance.randrange(3))
+        return words + self.seen()
+
+    def seen(self):
+        """What is told with its callers."""
+        chance, words = self.chance, load_number(3, SHARED + 4 * self.chance.randrange(3))
         if chance.random() < 0.15:
             return [*words, *load_number(5, SHARED - 4 * chance.choice([0, 1, 1, 2])), *load_number(6, chance.choice([4, 8, 16])), register_form(0, 2, 0, 5, 6)]
         return [*words, store_word(4, 0, 3) if chance.random() < 0.5 else immediate_form(0x03, 2, 4, 3, 0)]

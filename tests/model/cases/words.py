@@ -16,7 +16,7 @@ NO_COMMANDS = [[""], ["Run", "disk"], ["runs", "disk"], ["help"], ["--help"], ["
                ["--version", "run"], ["format", "--help"], ["run", "--help"], ["inspect", "--help"],
                ["calls", "--help"]]
 # What takes names, with the words in front of them; which words of no other command know the option.
-NAMED = {"inspect": ["disk"], "calls": ["disk"], "races": ["disk"], "timeline": ["disk"], "profile": ["disk"],
+NAMED = {"inspect": ["disk"], "calls": ["disk"], "races": ["disk"], "check": ["disk"], "timeline": ["disk"], "profile": ["disk"],
          "hunt": ["image", "--seeds", "1-1"], "drive": ["disk"]}
 NAMELESS = {"format": ["disk", "image"], "run": ["disk"], "debug": ["disk"]}
 NAMES = "names", "ckrt-names 1 " + 64 * "0" + " 00000004\n"  # a file without a row, of another image than the one that is there

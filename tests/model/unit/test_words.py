@@ -31,7 +31,7 @@ class Order(unittest.TestCase):
 class Names(unittest.TestCase):
     """A file of names that is refused, and one that isn't."""
     DISK = bytes(format_disk(Geometry(16, 1, 4096), b""))
-    ALL = {"inspect", "calls", "races", "timeline", "profile", "hunt", "drive"}
+    ALL = {"inspect", "calls", "races", "check", "timeline", "profile", "hunt", "drive"}
 
     def expected(self, command, names):
         return expected_of_words(WordsCase([], command, tuple(NAMED[command][:1]), {"at": None, "code": None, "from": None, "to": None}, names), self.DISK, b"")
