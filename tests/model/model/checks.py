@@ -2,7 +2,6 @@
 recorded events are made again."""
 from dataclasses import dataclass
 
-from model.abi import ALL_ONES
 from model.accesses import access_of
 from model.beneath import BLANKS, lines_of_callers, position_text
 from model.callers import callers_of
@@ -97,7 +96,7 @@ class Checks:
         if fault is None:
             return self.heap.give_back(first, moment)
         is_unknown = told.state is State.UNTOLD and self.stretch[0] > 0
-        return None if is_unknown else (f"frees {address_text(first)}", back - 4 & ALL_ONES, fault, told)
+        return None if is_unknown else (f"frees {address_text(first)}", max(back - 4, 0), fault, told)
 
     def tell(self, what, place, fault, told, moment, back):
         """What is done at one place of the program, called from one place, is one line."""

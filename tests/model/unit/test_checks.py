@@ -201,8 +201,10 @@ class Lines(Memory):
                                  "    in a block of 5 bytes from 00002804 on, taken at 3+7 by thread 2", "    given back at 3+13 by thread 2"])
 
     def test_begins(self):
-        """A call at the first address wraps."""
-        self.assertIn("pc fffffffc", told((2, [*nobodys(), *back(0), *freed(0x2000)]))[0])
+        """Before the first address there is no call."""
+        for value in range(5):
+            self.assertIn("pc 00000000", told((2, [*nobodys(), *back(value), *freed(0x2000)]))[0])
+        self.assertIn("pc 00000001", told((2, [*nobodys(), *back(5), *freed(0x2000)]))[0])
 
     def test_ended(self):
         lines = told((2, [*nobodys(), *taken()]), (3, nobodys(HEAP + 4, 8)), (2, load(HEAP + 4)))

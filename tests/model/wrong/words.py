@@ -26,6 +26,7 @@ WRONG = {
         (' or (self.names is not None and self.command == "hunt")', ""),
         ('(self.names is not None and self.command == "hunt")', 'self.command == "hunt"'),
         ('return self.words[1:] == ["--help"]', "return False"),
-        ('["disk"], "races": ["disk"], "timeline"', '["disk"], "timeline"'),
+        ('["disk"], "races": ["disk"], "check"', '["disk"], "check"'),
+        ('"check": ["disk"], ', ""),
     ],
 }
