@@ -97,8 +97,8 @@ fn expect_listing<R: Abort + AllocGlobal, D: Disk>(rt: &R, at_call: u64, disk: &
 }
 
 /// How many reads the inspector makes after the whole run: of the superblock, a header and what it needs of the other one, the
-/// tables, the pages, the gate of a journal that is empty, and what the disk notes of its program.
-const READS: u64 = 7;
+/// tables, the pages, the gate of a journal that is empty, and what the disk notes of its program and of its schedule.
+const READS: u64 = 8;
 
 /// Each call of the run fails in turn, and none of the inspector after it.
 fn fail_each_call<R: Abort + AllocGlobal>(rt: &R) {
@@ -135,7 +135,7 @@ fn reads_of<R: Abort + AllocGlobal>(rt: &R, at_call: u64, left: &[u8]) -> u64 {
     0
 }
 
-/// How many reads the inspector makes after a run whose disk failed this call: of a superblock that isn't there one; and 7 as
+/// How many reads the inspector makes after a run whose disk failed this call: of a superblock that isn't there one; and 8 as
 /// above, with more for the batch that stands in the journal between the commit and the end of the first checkpoint.
 fn is_count_of_reads(at_call: u64, reads: u64) -> bool {
     match at_call {
