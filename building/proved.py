@@ -86,6 +86,14 @@ def run_proofs(is_chain_first):
     return rt.main(["ci"])
 
 
+def run_rt(name, words):
+    """Runs a command of `rt` in a crate's folder, without the minutes for its stamps. No file may change meanwhile. Returns the status."""
+    rt = module_of_the_kit("rt")
+    remember_answers(rt)
+    os.chdir(f"{TOP}/crates/{name}")
+    return rt.main(words)
+
+
 def prove(room, count):
     """Proves all in a copy, and tells each crate that is done. Returns whether all are proved, and what was said."""
     began, said, done = time.monotonic(), [], 0
