@@ -4,5 +4,4 @@ mod WalkLemmas
 mod ReadyLemmas
 mod NotedLemmas
 mod TableLemmas
-mod CycleLemmas
 mod LawLemmas

@@ -1,4 +1,3 @@
-pub mod CycleRows
 pub mod Races
 pub mod RaceRuns
 pub mod RaceTable

@@ -4,4 +4,3 @@ pub mod ReplayLemmas
 pub mod WalkLemmas
 pub mod NumberLemmas
 pub mod RiseLemmas
-pub mod CycleLemmas

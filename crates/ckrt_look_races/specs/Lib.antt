@@ -1,6 +1,5 @@
 pub mod Holders
 pub mod Kit
-pub mod Locking
 pub mod Accesses
 pub mod Acting
 pub mod Writers
@@ -9,7 +8,5 @@ pub mod Steps
 pub mod Texts
 pub mod Moments
 pub mod Again
-pub mod Inversions
 pub mod Recorded
 pub mod Laws
-pub mod CycleLaws
