@@ -1,5 +1,4 @@
 pub mod Positions
-pub mod Pool
 pub mod Engine
 pub mod Stops
 pub mod Search
