@@ -6,13 +6,13 @@ ghost use Rattle.ckrt_cli.specs.Looking.{ChecksPath};
 
 use crate::looking::look_path;
 use ckrt_cli_files::Sources;
-use ckrt_cli_reports::JobFault;
-use ckrt_cli_words::StretchJob;
+use ckrt_cli_reports::{JobFault, is_room};
+use ckrt_cli_words::ShadowJob;
 use ckrt_disk::Disk;
 use ckrt_events::Event;
 use ckrt_inspect::InspectFault;
 use ckrt_look_calls::Telling;
-use ckrt_look_heap::write_errors;
+use ckrt_look_heap::{ROOM, write_errors};
 use ckrt_look_recording::Rule;
 use ckrt_machine::Machine;
 use std::alloc::Global;
@@ -22,6 +22,7 @@ use std::io::{Read, Write};
 #[derive(Clone, Copy)]
 struct Errors<'a> {
     rules: &'a [Rule],
+    room: u64,
 }
 
 impl Telling for Errors<'_> {
@@ -38,7 +39,7 @@ impl Telling for Errors<'_> {
         events: &[Event],
         out: &mut W,
     ) -> Result<(), InspectFault> {
-        write_errors(alloc, machine, count, events, self.rules, out)
+        write_errors(alloc, machine, count, events, self.rules, self.room, out)
     }
 }
 
@@ -50,7 +51,7 @@ impl Telling for Errors<'_> {
 /// As those of [`calls_path`](crate::calls_path).
 pub fn check_path<'a, I: Read, D: Disk, S: Sources<'a, I, D>, W: Write>(
     alloc: Global,
-    job: &StretchJob<'a>,
+    job: &ShadowJob<'a>,
     rules: &[Rule],
     sources: &mut S,
     writer: &mut W,
@@ -61,5 +62,12 @@ pub fn check_path<'a, I: Read, D: Disk, S: Sources<'a, I, D>, W: Write>(
         (outside (S.openings sources.old) (W.contents writer.old) left)
         (outside (S.openings sources.new) (W.contents writer.new) left) result }
 {
-    look_path::<I, D, S, Errors, W>(alloc, job, &Errors { rules }, sources, writer)
+    if !is_room(job.memory) {
+        return Err(JobFault::Range);
+    }
+    let errors = Errors {
+        rules,
+        room: job.memory.unwrap_or(ROOM),
+    };
+    look_path::<I, D, S, Errors, W>(alloc, &job.stretch, &errors, sources, writer)
 }

@@ -349,7 +349,7 @@ fn check_command<'a>(alloc: Global) -> Result<Command<'a>, AllocError>
     ensures app { IfOk result (λ c. app_of c ≡ check_app) }
     ensures local { IfOk result (λ c. (out-Command c).has_globals ≡ false) }
 {
-    let arguments = stretch_arguments(alloc)?;
+    let arguments = shadow_arguments(alloc)?;
     Command::new(alloc, "check")
         .about(
             "Tells the errors of memory of a stopped guest, and changes nothing, as `ckrt check pi.disk`",

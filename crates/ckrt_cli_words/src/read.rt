@@ -49,7 +49,7 @@ const RACES_USAGE: &str =
 
 /// What follows a number of `check` that isn't one.
 const CHECK_USAGE: &str =
-    "Usage: ckrt check <DISK> [--from NUMBER OF EVENTS] [--to NUMBER OF EVENTS] [--last NUMBER OF EVENTS] [--names <FILE>]";
+    "Usage: ckrt check <DISK> [--from NUMBER OF EVENTS] [--to NUMBER OF EVENTS] [--last NUMBER OF EVENTS] [--names <FILE>] [--memory BYTES]";
 
 /// What follows a number of `timeline` that isn't one.
 const TIMELINE_USAGE: &str =
