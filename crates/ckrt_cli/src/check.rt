@@ -6,30 +6,29 @@ ghost use Rattle.ckrt_cli.specs.Looking.{ChecksPath};
 
 use crate::looking::look_path;
 use ckrt_cli_files::Sources;
-use ckrt_cli_reports::{JobFault, is_room};
-use ckrt_cli_words::ShadowJob;
+use ckrt_cli_reports::JobFault;
+use ckrt_cli_words::StretchJob;
 use ckrt_disk::Disk;
 use ckrt_events::Event;
 use ckrt_inspect::InspectFault;
 use ckrt_look_calls::Telling;
-use ckrt_look_heap::{ROOM, write_errors};
 use ckrt_look_recording::Rule;
+use ckrt_look_values::write_checks;
 use ckrt_machine::Machine;
 use std::alloc::Global;
 use std::io::{Read, Write};
 
-/// Its errors of memory, a line for each place, with what is told of the first one there. Callers are found by rules.
+/// Its errors of memory and its uses of values that were never stored, a line for each place, with what is told of the first one there. Callers
+/// are found by rules.
 #[derive(Clone, Copy)]
 struct Errors<'a> {
     rules: &'a [Rule],
-    room: u64,
 }
 
 impl Telling for Errors<'_> {
-    ghost use Rattle.ckrt_look_calls.specs.Stretches.{account};
-    ghost use Rattle.ckrt_look_heap.specs.Recorded.{IsErrorsText};
+    ghost use Rattle.ckrt_look_values.specs.Recorded.{IsChecksText};
 
-    ghost Tells = { λ r. account (IsErrorsText r.rules.now) };
+    ghost Tells = { λ r. IsChecksText r.rules.now };
 
     fn tell<W: Write>(
         &self,
@@ -39,19 +38,19 @@ impl Telling for Errors<'_> {
         events: &[Event],
         out: &mut W,
     ) -> Result<(), InspectFault> {
-        write_errors(alloc, machine, count, events, self.rules, self.room, out)
+        write_checks(alloc, machine, count, events, self.rules, out)
     }
 }
 
-/// Tells the errors of memory of what the disk of a path has recorded, a line for each place, with what is told of the first one there: of
-/// all, or of the events behind so many and up to so many. Callers are found by rules. The disk is only read.
+/// Tells the errors of memory of what the disk of a path has recorded, and its uses of values that were never stored: a line for each place,
+/// with what is told of the first one there, of all, or of the events behind so many and up to so many. Callers are found by rules. The disk is only read.
 ///
 /// # Errors
 ///
 /// As those of [`calls_path`](crate::calls_path).
 pub fn check_path<'a, I: Read, D: Disk, S: Sources<'a, I, D>, W: Write>(
     alloc: Global,
-    job: &ShadowJob<'a>,
+    job: &StretchJob<'a>,
     rules: &[Rule],
     sources: &mut S,
     writer: &mut W,
@@ -62,12 +61,5 @@ pub fn check_path<'a, I: Read, D: Disk, S: Sources<'a, I, D>, W: Write>(
         (outside (S.openings sources.old) (W.contents writer.old) left)
         (outside (S.openings sources.new) (W.contents writer.new) left) result }
 {
-    if !is_room(job.memory) {
-        return Err(JobFault::Range);
-    }
-    let errors = Errors {
-        rules,
-        room: job.memory.unwrap_or(ROOM),
-    };
-    look_path::<I, D, S, Errors, W>(alloc, &job.stretch, &errors, sources, writer)
+    look_path::<I, D, S, Errors, W>(alloc, job, &Errors { rules }, sources, writer)
 }

@@ -56,7 +56,6 @@ impl HuntAsked {
             may_end: self.may_end,
             input,
             races: false,
-            room: 0,
             all_rows: self.all_rows,
         }
     }

@@ -15,6 +15,6 @@ mod read;
 
 pub use job::{
     CoreJob, DebugJob, DriveJob, FormatJob, HuntJob, InspectJob, Job, ProfileForm, ProfileJob,
-    ShadowJob, Sizes, StretchJob, TimelineJob, WordsFault,
+    Sizes, StretchJob, TimelineJob, WordsFault,
 };
 pub use read::{read_names, read_words};

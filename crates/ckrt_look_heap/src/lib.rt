@@ -8,23 +8,25 @@
 mod again;
 mod block;
 mod callers;
+mod cells;
 mod finding;
 mod found;
 mod laws;
 mod left;
 mod moment;
 mod notes;
-mod parts;
 mod recorded;
 mod replay;
 mod shadow;
 mod texts;
 mod walk;
 
+pub use again::{write_back, write_made};
 pub use block::{Access, Block, Cell, Deed, Moment, Part};
 pub use finding::{FINDINGS, Finding};
 pub use laws::{example_is_told, given_back_blocks_are_told, given_blocks_are_used};
-pub use parts::PART_BYTES;
-pub use recorded::{ROOM, shadow_for, write_errors};
+pub use recorded::{PAGES_LIMIT, shadow_for, write_errors};
+pub use replay::{Cursor, Source, copy_of};
 pub use shadow::{Note, Shadow};
+pub use texts::{write_others_line, write_times_line};
 pub use walk::watch_event;

@@ -13,7 +13,6 @@ ghost use Rattle.ckrt_look_heap.specs.Texts.{found_text};
 
 use crate::again::write_findings;
 use crate::left::write_left;
-use crate::parts::PART_BYTES;
 use crate::replay::{Source, copy_of};
 use crate::shadow::Shadow;
 use crate::texts::{write_none, write_others_line, write_untold};
@@ -26,12 +25,7 @@ use std::alloc::{AllocError, Global};
 use std::io::Write;
 
 /// Makes events, if each is accepted at its turn, and gives a shadow what they note, up to their end. The first is behind `count` others.
-fn watch_events(
-    machine: &mut Machine,
-    count: u64,
-    events: &[Event],
-    shadow: &mut Shadow,
-) -> Result<(), InspectFault>
+fn watch_events(machine: &mut Machine, count: u64, events: &[Event], shadow: &mut Shadow) -> bool
     requires few { count + length events.now < 2 ^ 64 }
     ensures watched { OnTrue result
         (shadow.new ≡ behind_all (of_events count events.now machine.old.state) shadow.old) }
@@ -41,21 +35,17 @@ fn watch_events(
     let mut done = count;
     for event in events {
         if !event.in_range() || machine.accept(0, event).is_err() {
-            return Err(InspectFault::Damaged);
+            return false;
         }
         watch_event(machine, done, event, shadow);
-        if shadow.is_full() {
-            return Err(InspectFault::ShadowFull);
-        }
         done += 1;
     }
     watch_end(machine, shadow);
-    Ok(())
+    true
 }
 
-/// How many bytes the room of a look at errors of memory has, unless it's asked for another one: it takes the shadow of 40,965 parts of memory, of
-/// 4,096 bytes each, whose words differ.
-pub const ROOM: u64 = 2_349_096_960;
+/// How many pages a program has at most whose memory is looked at: for each there are 56 KiB.
+pub const PAGES_LIMIT: u32 = 8_192;
 
 /// How many words of memory there are, from address 0 on.
 fn words_of(machine: &Machine) -> usize
@@ -64,31 +54,15 @@ fn words_of(machine: &Machine) -> usize
     1024 * machine.memory().pages() as usize
 }
 
-/// How many slots a room of so many bytes has: no more than a memory of so many words has parts.
-fn slots_in(room: u64, words: usize) -> usize
-    ensures { result ≡ slots_in room words }
-{
-    let parts = words / 1024 + 1;
-    let slots = room / PART_BYTES;
-    if slots < parts as u64 {
-        slots as usize
-    } else {
-        parts
-    }
-}
-
 /// A shadow for what a machine does behind so many events: nothing is known of what was told before. It takes 14 bytes for each of the guest's
 /// memory. It fails where the allocator refuses them, or the program has more than [`PAGES_LIMIT`] pages.
-pub fn shadow_for(
-    alloc: Global,
-    machine: &Machine,
-    count: u64,
-    room: u64,
-) -> Result<Shadow, AllocError>
+pub fn shadow_for(alloc: Global, machine: &Machine, count: u64) -> Result<Shadow, AllocError>
     ensures { IfOk result (λ shadow. shadow ≡ fresh_behind count machine.now.state) }
 {
-    let words = words_of(machine);
-    Shadow::new(alloc, count == 0, words, slots_in(room, words))
+    if machine.memory().pages() > PAGES_LIMIT {
+        return Err(AllocError);
+    }
+    Shadow::new(alloc, count == 0, words_of(machine))
 }
 
 /// Writes the errors that were found.
@@ -162,7 +136,6 @@ pub fn write_errors<W: Write>(
     count: u64,
     events: &[Event],
     rules: &[Rule],
-    room: u64,
     out: &mut W,
 ) -> Result<(), InspectFault>
     requires few { count + length events.now < 2 ^ 64 }
@@ -170,15 +143,17 @@ pub fn write_errors<W: Write>(
         (Appends (W.contents out.old) (W.contents out.new)
         (errors_text rules.now count events.now machine.old.state)) }
     ensures accepted { OnOk result (AllAccepted events.now machine.old.state) }
-    ensures fault { IfErr result (IsEventsFault ⊥ events.now machine.old.state) }
+    ensures fault { IfErr result (IsEventsFault events.now machine.old.state) }
 {
-    let Ok(mut shadow) = shadow_for(alloc, machine, count, room) else {
+    let Ok(mut shadow) = shadow_for(alloc, machine, count) else {
         return Err(InspectFault::OutOfMemory);
     };
     let Ok(start) = copy_of(alloc, machine) else {
         return Err(InspectFault::OutOfMemory);
     };
-    watch_events(machine, count, events, &mut shadow)?;
+    if !watch_events(machine, count, events, &mut shadow) {
+        return Err(InspectFault::Damaged);
+    }
     let source = Source {
         rules,
         count,

@@ -7,7 +7,7 @@ use Rattle.ckrt_hunt_races.proofs.telling.count_runs.Goals as goal
 -- as many as were run
 pub returns-clause-counted : goal.returns-clause-counted
 returns-clause-counted g c =
-    let h = c.args.hunt.now.hunt in
+    let h = c.args.hunt.now in
     let all = c.args.asked.now.seeds in
     let some = c.in-Some.seeds in
     let ensures = c.in-Some.ensures in

@@ -1,0 +1,20 @@
+-- The second look at a use: what is told of who made it, and of who was given the memory.
+use Rattle.std.specs.Prelude.{List, ℕ, ◌++◌}
+use Rattle.ckrt_look_heap.specs.Again.{IsBehind, Replay, back_text, made_text}
+use Rattle.ckrt_look_values.specs.Texts.{finding_line, from_text}
+use Rattle.ckrt_look_values.specs.Values.{moment_of}
+use Rattle.ckrt_look_values.specs.declared.again.Cursors.{Cursors}
+use Rattle.ckrt_look_values.specs.declared.finding.Finding.{Finding}
+
+-- machines have made so many events
+pub record AreBehind (r : Replay) (c : Cursors) : Type 0 where
+  pub made : IsBehind r c.made
+  pub given : IsBehind r c.given
+
+abbrev pub beneath_text : Replay → Finding → List ℕ
+beneath_text r f =
+    made_text f.first.moment r
+    ++ back_text (from_text f.first.value.is_block) (moment_of f.first.value) r
+
+abbrev pub finding_text : Replay → Finding → List ℕ
+finding_text r f = finding_line f ++ beneath_text r f
