@@ -7,7 +7,7 @@ from model.accesses import given_anew
 from model.callers import callers_of
 from model.listing import address_text
 from model.races import text_of_pair, times
-from model.stretches import is_plain
+from model.stretches import plain_thread
 
 BLANKS = "    "
 OWN_NAMES = 4096  # below it are the names of a kit's own locks, which are left out
@@ -46,8 +46,8 @@ class Beneath:
         self.event = number
 
     def look(self, machine, hart, step, make):
-        thread_id, position = None if hart is None else machine.harts[hart], (self.event, step)
-        if thread_id is not None and is_plain(machine, thread_id):
+        thread_id, position = plain_thread(machine, hart), (self.event, step)
+        if thread_id is not None:
             if position in self.wanted:
                 self.held[position] = locks_of(machine, thread_id)
                 self.callers[position] = callers_of(machine, thread_id, self.rows)

@@ -8,7 +8,7 @@ from model.callers import callers_of
 from model.heap import Heap, Moment, State, note_of
 from model.listing import address_text
 from model.races import times
-from model.stretches import is_plain
+from model.stretches import plain_thread
 from model.threads import Status
 
 PLACES = 64  # that have lines of their own
@@ -64,8 +64,8 @@ class Checks:
         self.event = number
 
     def look(self, machine, hart, step, make):
-        thread_id = None if hart is None else machine.harts[hart]
-        if thread_id is not None and is_plain(machine, thread_id):
+        thread_id = plain_thread(machine, hart)
+        if thread_id is not None:
             self.look_at_plain(machine, thread_id, (self.event, step))
         return make()
 

@@ -7,7 +7,7 @@ from model.clocks import Clocks
 from model.listing import address_text
 from model.orders import Before, Orders
 from model.other_rules import Watched
-from model.stretches import is_plain, next_word
+from model.stretches import next_word, plain_thread
 
 PAIRS = 64  # that have lines of their own
 ONE_AROUND = "a store on both sides of another one, counted once"
@@ -119,11 +119,11 @@ class Readings:
 
     def look(self, machine, hart, step, make):
         """A plain step has an access at most; any other one, and an event that is no run, may hand something on."""
-        thread_id = None if hart is None else machine.harts[hart]
-        if thread_id is not None and is_plain(machine, thread_id):
+        thread_id = plain_thread(machine, hart)
+        if thread_id is not None:
             self.look_at_plain(machine, thread_id, (self.event, step))
             return make()
-        before = Before(machine, thread_id)
+        before = Before(machine, None if hart is None else machine.harts[hart])
         made = make()
         for races in (self.narrow, self.wide):
             races.orders.hand_on(before, machine)

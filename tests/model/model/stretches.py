@@ -84,3 +84,9 @@ def next_word(machine, thread_id):
 def is_plain(machine, thread_id):
     """Whether the thread's next step is an instruction that calls nothing: it changes registers and memory alone, or faults."""
     return next_word(machine, thread_id) not in (None, ECALL)
+
+
+def plain_thread(machine, hart):
+    """The thread on a hart whose next step is such an instruction; None where there is none."""
+    thread_id = None if hart is None else machine.harts[hart]
+    return thread_id if thread_id is not None and is_plain(machine, thread_id) else None
