@@ -4,4 +4,5 @@ mod WalkLemmas
 mod ReadyLemmas
 mod NotedLemmas
 mod TableLemmas
+mod CycleLemmas
 mod LawLemmas

@@ -29,10 +29,11 @@ has_begun s whole stepped d cleared a b some holders words is = record {
 }
 
 -- what a run has is noted as that of its seed
-pub looked : (h : Hunted) (seed : ℕ) (p : Plan) (s : State) (d : Detected) (old new : Raced) → p ≡ plan_in h seed → s ≡ h.start → Sees p s d → is_full d ≡ false → new ≡ with_run seed d.watched.found old → IsLookedAt h seed old new
+pub looked : (h : Hunted) (seed : ℕ) (p : Plan) (s : State) (d : Detected) (old new : Raced) → p ≡ plan_in h seed → s ≡ h.start → Sees p s d → is_full d ≡ false → new ≡ with_run seed d.watched.found d.watched.orders old → IsLookedAt h seed old new
 looked h seed p s d old new plan start sees left noted = record {
   found = d.watched.found;
-  has = subst (λ (t : State). HasRaces (plan_in h seed) t d.watched.found) start (subst (λ (q : Plan). HasRaces q s d.watched.found) plan (sees.found left));
+  orders = d.watched.orders;
+  has = subst (λ (t : State). HasRaces (plan_in h seed) t d.watched.found d.watched.orders) start (subst (λ (q : Plan). HasRaces q s d.watched.found d.watched.orders) plan (sees.found left));
   noted = noted;
 }
 

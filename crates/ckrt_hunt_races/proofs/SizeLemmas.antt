@@ -18,6 +18,7 @@ holders_at a (Some c) w = refl
 holders_behind : (o : Operation) (w : Watched) → length (behind o w).clocks ≡ length w.clocks
 holders_behind (operation.Access a) w = holders_at a (slice_get w.shadow (word_of a)) w
 holders_behind (operation.Renew m) w = refl
+holders_behind (operation.Lock l p) w = refl
 holders_behind (operation.Pass from to p) w =
     length-set w.clocks to (record { seen = joined (clock_of to w.clocks).seen (clock_at from p w.clocks).seen })
 

@@ -121,6 +121,8 @@ module _ (p : Plan) where
           accepted = h.accepted;
           is_found = ap (λ (v : Detected). v.watched.found) h.noted
               ∙ ap (λ (v : Watched). v.found) (nothing_left_out HOLDERS (words_of start) h.slots (of_events 0 es start) (sym (ap is_full h.noted) ∙ left));
+          is_ordered = ap (λ (v : Detected). v.watched.orders) h.noted
+              ∙ ap (λ (v : Watched). v.orders) (nothing_left_out HOLDERS (words_of start) h.slots (of_events 0 es start) (sym (ap is_full h.noted) ∙ left));
         };
         holders = ap (λ (v : Detected). length v.watched.clocks) h.noted ∙ same_holders (of_events 0 es start) f ∙ length-replicate HOLDERS no_clock;
         words = ap (λ (v : Detected). length v.watched.shadow) h.noted ∙ same_words (of_events 0 es start) f ∙ length-replicate (words_of start) no_accesses;

@@ -1,5 +1,5 @@
 -- A hunt from its image to its table, with the races of its runs where they are asked for.
-use Rattle.std.specs.Prelude.{ℕ, nat_lt, Bool, true, false, if◌then◌else◌, List, [], ◌++◌, length, Option, Some, None}
+use Rattle.std.specs.Prelude.{ℕ, nat_lt, ◌||◌, Bool, true, false, if◌then◌else◌, List, [], ◌++◌, length, Option, Some, None}
 use Rattle.ckrt_hunt_schedules.specs.Kinds.{verdict_of}
 use Rattle.ckrt_hunt_schedules.specs.Table.{done_text}
 use Rattle.ckrt_hunt_schedules.specs.Seeds.{IsBeginning}
@@ -43,10 +43,11 @@ abbrev pub told_text : Asked → HuntTold → List ℕ
 told_text a told =
     done_text a told.done ++ races_behind (record a { seeds = told.done.seeds }) told.races
 
--- WHAT IT CAME TO: a run with a race is told apart, whatever the outcomes are
+-- WHAT IT CAME TO: a run with a race or a cycle of locks is told apart, whatever the outcomes are
 abbrev pub has_race : Option RaceTally → Bool
 has_race None = false
-has_race (Some races) = nat_lt 0 (length races.rows.items)
+has_race (Some races) =
+    nat_lt 0 (length races.rows.items) || nat_lt 0 (length races.cycles.items)
 
 abbrev pub verdict_on : HuntTold → Verdict
 verdict_on told =

@@ -1,3 +1,4 @@
+pub mod CycleRows
 pub mod Races
 pub mod RaceRuns
 pub mod RaceTable

@@ -10,10 +10,12 @@ use Rattle.ckrt_schedule.specs.declared.next.Next.TheVariants.{End}
 use Rattle.ckrt_schedule.specs.declared.next.ScheduleEnd.{ScheduleEnd}
 use Rattle.ckrt_look_clocks.specs.Detection.{Found}
 use Rattle.ckrt_look_clocks.specs.Laws.{IsRaceOf}
+use Rattle.ckrt_look_clocks.specs.LockHistories.{Ordered}
 use Rattle.ckrt_look_clocks.specs.Within.{Detected, fresh_within, is_full, noted_all}
+use Rattle.ckrt_look_races.specs.CycleLaws.{TellsCycle}
 use Rattle.ckrt_look_races.specs.Holders.{HOLDERS}
 use Rattle.ckrt_look_races.specs.Laws.{history_of}
-use Rattle.ckrt_look_races.specs.Recorded.{found_by, words_of}
+use Rattle.ckrt_look_races.specs.Recorded.{found_by, orders_by, words_of}
 use Rattle.ckrt_look_races.specs.Steps.{of_events}
 use Rattle.ckrt_hunt_schedules.specs.Runs.{AreScheduled, Point, beginning, behind, next_at}
 use Rattle.ckrt_hunt_schedules.specs.Tallies.{Hunted, IsNoted, IsRoomFor, SeedComesTo, SeedEndsWith, plan_in}
@@ -30,26 +32,28 @@ use Rattle.ckrt_hunt_races.specs.Races.{Raced, no_races, raced_in, with_run}
 -- WHAT A RUN HAS
 
 -- A run by this plan has these races: its events are those of the schedule, up to the one that has none after it, and each is accepted at its
--- turn; the races are those that are found by them.
-pub record HasRaces (p : Plan) (start : State) (found : Found) : Type 0 where
+-- turn; the races are those that are found by them, and so are the orders of locks.
+pub record HasRaces (p : Plan) (start : State) (found : Found) (orders : Ordered) : Type 0 where
   pub events : List Event
   pub ending : ScheduleEnd
   pub scheduled : AreScheduled p events (beginning start)
   pub ended : next_at p (behind p events (beginning start)) ≡ End ending
   pub accepted : AllAccepted events start
   pub is_found : found ≡ found_by 0 events start
+  pub is_ordered : orders ≡ orders_by 0 events start
 
 -- those of a seed's run
-abbrev pub SeedHas : Hunted → (seed : ℕ) → Found → Type 0
-SeedHas h seed found = HasRaces (plan_in h seed) h.start found
+abbrev pub SeedHas : Hunted → (seed : ℕ) → Found → Ordered → Type 0
+SeedHas h seed found orders = HasRaces (plan_in h seed) h.start found orders
 
 -- ONE SEED AFTER ANOTHER
 
 -- races that grew by those of a seed's run
 pub record IsLookedAt (h : Hunted) (seed : ℕ) (old new : Raced) : Type 0 where
   pub found : Found
-  pub has : SeedHas h seed found
-  pub noted : new ≡ with_run seed found old
+  pub orders : Ordered
+  pub has : SeedHas h seed found orders
+  pub noted : new ≡ with_run seed found orders old
 
 -- the same out of races of which something was so
 pub record GrewBy (WasSo : Raced → Type 0) (h : Hunted) (seed : ℕ) (races : Raced) : Type 0 where
@@ -88,7 +92,7 @@ pub record HasSeen (p : Plan) (start : State) (m : Made) (s : State) (d : Detect
 
 -- it has come to its end, and its races are known unless the room was used up
 pub record Sees (p : Plan) (start : State) (d : Detected) : Type 0 where
-  pub found : is_full d ≡ false → HasRaces p start d.watched.found
+  pub found : is_full d ≡ false → HasRaces p start d.watched.found d.watched.orders
   pub holders : length d.watched.clocks ≡ HOLDERS
   pub words : length d.watched.shadow ≡ words_of start
 
@@ -133,17 +137,24 @@ pub record IsReady (h : Hunted) (first second : Beginning) (d : Detected) : Type
 -- each pair that is told of a seed is a race of its run, by the definition
 abbrev pub OnlyRacesAreTold : Type 0
 OnlyRacesAreTold =
-    (h : Hunted) (seed : ℕ) (found : Found) → (has : SeedHas h seed found)
+    (h : Hunted) (seed : ℕ) (found : Found) (orders : Ordered) → (has : SeedHas h seed found orders)
     → AllByRecursion (IsRaceOf (history_of 0 has.events h.start)) found.pairs
 
--- a seed has the same races again
+-- each cycle of locks that is told of a seed is one, by the definition
+abbrev pub OnlyCyclesAreTold : Type 0
+OnlyCyclesAreTold =
+    (h : Hunted) (seed : ℕ) (found : Found) (orders : Ordered) → SeedHas h seed found orders
+    → AllByRecursion TellsCycle orders.found.rows
+
+-- a seed has the same races again, and the same orders of locks
 abbrev pub RacesRepeat : Type 0
 RacesRepeat =
-    (h : Hunted) (seed : ℕ) (first second : Found) → SeedHas h seed first → SeedHas h seed second
-    → first ≡ second
+    (h : Hunted) (seed : ℕ) (first second : Found) (one other : Ordered) → SeedHas h seed first one
+    → SeedHas h seed second other → (first ≡ second) × (one ≡ other)
 
 -- they are those of the run whose outcome is told
 abbrev pub RacesAreOfTheRun : Type 0
 RacesAreOfTheRun =
-    (h : Hunted) (seed : ℕ) (told : Told) (found : Found) → (comes : SeedComesTo h seed told)
-    → (has : SeedHas h seed found) → comes.events ≡ has.events
+    (h : Hunted) (seed : ℕ) (told : Told) (found : Found) (orders : Ordered)
+    → (comes : SeedComesTo h seed told) → (has : SeedHas h seed found orders)
+    → comes.events ≡ has.events

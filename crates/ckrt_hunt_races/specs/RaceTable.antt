@@ -8,6 +8,8 @@ use Rattle.std.specs.Prelude.{ℕ, zero, suc, ◌+◌, ◌-◌, ◌==◌, if◌t
 use Rattle.ckrt_hunt_schedules.specs.Table.{command_line, runs_text}
 use Rattle.ckrt_hunt_schedules.specs.declared.table.Asked.{Asked}
 use Rattle.ckrt_look_races.specs.Texts.{both_text}
+use Rattle.ckrt_look_races.specs.Inversions.{cycle_text}
+use Rattle.ckrt_hunt_races.specs.declared.cycle_row.CycleRow.{CycleRow}
 use Rattle.ckrt_hunt_races.specs.declared.row.RaceRow.{RaceRow}
 use Rattle.ckrt_hunt_races.specs.Races.{Raced}
 
@@ -48,9 +50,59 @@ no_races_line a =
 abbrev pub some_text : Asked → Raced → List ℕ
 some_text a t = rows_text a t.rows (length t.rows) ++ others_line a t.others
 
-abbrev pub text_of : Asked → List RaceRow → (others : ℕ) → List ℕ
-text_of a [] others = no_races_line a
-text_of a (r ∷ rs) others = some_text a (record { rows = r ∷ rs; others = others })
+abbrev pub text_by : Asked → List RaceRow → Raced → List ℕ
+text_by a [] t = no_races_line a
+text_by a (r ∷ rs) t = some_text a t
 
+abbrev pub text_of : Asked → Raced → List ℕ
+text_of a t = text_by a t.rows t
+
+-- THE CYCLES OF LOCKS, in the same way
+--
+--     lock cycle 1: 12 of 200 runs, first by seed 3: 11+33 thread 3 takes .., 7+61 thread 2 takes .., a cycle of 2
+
+abbrev pub cycle_head : Asked → (number : ℕ) → CycleRow → List ℕ
+cycle_head a number r =
+    codes "lock cycle " ++ decimal number ++ (codes ": " ++ decimal r.count) ++ runs_text a
+    ++ (codes ", first by seed " ++ decimal r.first)
+    ++ codes ": "
+
+abbrev pub cycle_line : Asked → (number : ℕ) → CycleRow → List ℕ
+cycle_line a number r = cycle_head a number r ++ cycle_text r.inversion ++ codes "\n"
+
+abbrev pub cycle_row_text : Asked → (number : ℕ) → CycleRow → List ℕ
+cycle_row_text a number r = cycle_line a number r ++ command_line a r.first
+
+abbrev pub cycle_row_at : Asked → (number : ℕ) → Option CycleRow → List ℕ
+cycle_row_at a number None = []
+cycle_row_at a number (Some r) = cycle_row_text a number r
+
+unfoldable pub cycle_rows : Asked → List CycleRow → (n : ℕ) → List ℕ
+cycle_rows a rows zero = []
+cycle_rows a rows (suc n) = cycle_rows a rows n ++ cycle_row_at a (suc n) (slice_get rows n)
+
+abbrev pub known_other_cycles : Asked → (others : ℕ) → List ℕ
+known_other_cycles a others =
+    codes "other lock cycles: in " ++ decimal others ++ runs_text a ++ codes "\n"
+
+abbrev pub other_cycles_line : Asked → (others : ℕ) → List ℕ
+other_cycles_line a others = if others == 0 then [] else known_other_cycles a others
+
+abbrev pub no_cycles_line : Asked → List ℕ
+no_cycles_line a =
+    codes "no lock cycles in " ++ decimal (a.seeds.last - a.seeds.first + 1)
+    ++ codes " runs; other schedules may have some\n"
+
+abbrev pub some_cycles : Asked → Raced → List ℕ
+some_cycles a t = cycle_rows a t.cycles (length t.cycles) ++ other_cycles_line a t.other_cycles
+
+abbrev pub cycles_of : Asked → List CycleRow → Raced → List ℕ
+cycles_of a [] t = no_cycles_line a
+cycles_of a (r ∷ rs) t = some_cycles a t
+
+abbrev pub cycles_text : Asked → Raced → List ℕ
+cycles_text a t = cycles_of a t.cycles t
+
+-- races first
 abbrev pub races_text : Asked → Raced → List ℕ
-races_text a t = text_of a t.rows t.others
+races_text a t = text_of a t ++ cycles_text a t

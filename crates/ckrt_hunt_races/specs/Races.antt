@@ -3,21 +3,31 @@
 use Rattle.std.specs.Prelude.{ℕ, nat_lt, Bool, ◌||◌, not, if◌then◌else◌, List, [], ◌∷◌, ◌++◌, length}
 use Rattle.std.specs.List.{list_any}
 use Rattle.ckrt_look_clocks.specs.Detection.{Found, is_at, one_more}
+use Rattle.ckrt_look_clocks.specs.LockHistories.{Ordered}
 use Rattle.ckrt_look_clocks.specs.declared.pair.Pair.{Pair}
+use Rattle.ckrt_hunt_races.specs.CycleRows.{other_cycles_behind, with_cycles}
+use Rattle.ckrt_hunt_races.specs.declared.cycle_row.CycleRow.{CycleRow}
 use Rattle.ckrt_hunt_races.specs.declared.row.RaceRow.{RaceRow}
 use Rattle.ckrt_hunt_races.specs.declared.tally.RaceTally.{RaceTally}
 use Rattle.ckrt_hunt_races.specs.declared.row.TheConstants.{RACE_ROWS}
 
--- the pairs that have a row, and how many runs had a race that no row tells
+-- the pairs that have a row, and how many runs had a race that no row tells; and so of cycles of locks
 pub record Raced : Type 0 where
   pub rows : List RaceRow
   pub others : ℕ
+  pub cycles : List CycleRow
+  pub other_cycles : ℕ
 
 abbrev pub raced_in : RaceTally → Raced
-raced_in t = record { rows = t.rows.items; others = t.others }
+raced_in t = record {
+  rows = t.rows.items;
+  others = t.others;
+  cycles = t.cycles.items;
+  other_cycles = t.other_cycles;
+}
 
 abbrev pub no_races : Raced
-no_races = record { rows = []; others = 0 }
+no_races = record { rows = []; others = 0; cycles = []; other_cycles = 0 }
 
 -- the pair has the places of the row, in either order
 abbrev pub has_places : Pair → RaceRow → Bool
@@ -56,9 +66,12 @@ has_others rs f = nat_lt 0 f.others || list_any (lacks_row rs) f.pairs
 abbrev pub others_behind : List RaceRow → Found → (others : ℕ) → ℕ
 others_behind rs f n = if has_others rs f then one_more n else n
 
--- one run more, that of this seed, which had these races
-abbrev pub with_run : (seed : ℕ) → Found → Raced → Raced
-with_run seed f t = record {
+-- one run more, that of this seed, which had these races and these orders of locks
+abbrev pub with_run : (seed : ℕ) → Found → Ordered → Raced → Raced
+with_run seed f o t = record {
   rows = with_pairs seed f.pairs t.rows;
   others = others_behind (with_pairs seed f.pairs t.rows) f t.others;
+  cycles = with_cycles seed o.found.rows t.cycles;
+  other_cycles =
+      other_cycles_behind (with_cycles seed o.found.rows t.cycles) o.found t.other_cycles;
 }

@@ -41,7 +41,9 @@ impl<'i> Model for RaceHunt<'i> {
 fn note_whole(races: &mut RaceTally, seed: u64, detector: &Detector) -> bool
     ensures whole { result ≡ not (is_full detector.now) }
     ensures noted { OnTrue result
-        (raced_in races.new ≡ with_run seed detector.now.watched.found (raced_in races.old)) }
+        (raced_in races.new
+        ≡ with_run seed detector.now.watched.found detector.now.watched.orders
+        (raced_in races.old)) }
 {
     if detector.is_full() {
         return false;

@@ -6,6 +6,8 @@
 #![tactic(auto)]
 
 mod beginning;
+mod cycle_row;
+mod cycle_table;
 mod hunt;
 mod laws;
 mod row;
@@ -14,8 +16,9 @@ mod tally;
 mod telling;
 mod walk;
 
+pub use cycle_row::{CYCLE_ROWS, CycleRow};
 pub use hunt::RaceHunt;
-pub use laws::{only_races_are_told, races_are_of_the_run, races_repeat};
+pub use laws::{only_cycles_are_told, only_races_are_told, races_are_of_the_run, races_repeat};
 pub use row::{RACE_ROWS, RaceRow};
 pub use table::write_races;
 pub use tally::RaceTally;

@@ -1,9 +1,10 @@
 //! The races of a hunt, as lines behind its table.
 ghost use Rattle.std.specs.Prelude.{◌≡◌, ◌+◌, ◌++◌, ◌∷◌, [], codes, decimal, length, OnOk};
 ghost use Rattle.std.specs.Io.KnownBytes.{Appends};
-ghost use Rattle.ckrt_hunt_races.specs.RaceTable.{head_text, known_others_line, no_races_line, others_line, race_line, races_text, row_text, rows_text, some_text};
+ghost use Rattle.ckrt_hunt_races.specs.RaceTable.{head_text, known_others_line, no_races_line, others_line, race_line, races_text, row_text, rows_text, some_text, text_of};
 ghost use Rattle.ckrt_hunt_races.specs.Races.{raced_in};
 
+use crate::cycle_table::write_cycles;
 use crate::row::RaceRow;
 use crate::tally::RaceTally;
 use ckrt_hunt_schedules::{Asked, write_command_line, write_counted, write_runs};
@@ -106,16 +107,27 @@ fn write_some<W: Write>(out: &mut W, asked: &Asked<'_>, races: &RaceTally) -> Re
     write_others(out, asked, races.others())
 }
 
-/// Writes the races of a hunt: for each pair of places, in the order in which they were found first, in how many runs it raced, the first
-/// seed whose run had it, the accesses that raced there, and the command that repeats it. A number of the pair stands before it, from 1
-/// on. It takes no memory.
-pub fn write_races<W: Write>(out: &mut W, asked: &Asked<'_>, races: &RaceTally) -> Result<()>
+/// The pairs of places, or that there are none.
+fn write_pairs<W: Write>(out: &mut W, asked: &Asked<'_>, races: &RaceTally) -> Result<()>
     ensures { OnOk result
         (Appends (W.contents out.old) (W.contents out.new)
-        (races_text asked.now (raced_in races.now))) }
+        (text_of asked.now (raced_in races.now))) }
 {
     if races.rows().is_empty() {
         return write_no_races(out, asked);
     }
     write_some(out, asked, races)
+}
+
+/// Writes the races of a hunt: for each pair of places, in the order in which they were found first, in how many runs it raced, the first
+/// seed whose run had it, the accesses that raced there, and the command that repeats it. A number of the pair stands before it, from 1
+/// on. Then it writes the cycles of locks in the same way. It takes no memory.
+#[tactic(auto, using(ckrt_hunt_schedules::proofs::AppendLemmas::appends_both))]
+pub fn write_races<W: Write>(out: &mut W, asked: &Asked<'_>, races: &RaceTally) -> Result<()>
+    ensures { OnOk result
+        (Appends (W.contents out.old) (W.contents out.new)
+        (races_text asked.now (raced_in races.now))) }
+{
+    write_pairs(out, asked, races)?;
+    write_cycles(out, asked, races)
 }

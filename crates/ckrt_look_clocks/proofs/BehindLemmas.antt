@@ -71,3 +71,4 @@ seen_behind (operation.Pass from to p ∷ later) earlier a h i is had =
     passed_on full from to h (length earlier) i (seen full h (length earlier)) refl is
     (λ own. seen_behind later earlier a h i own had) (λ other. seen_behind later earlier a from i other had)
 seen_behind (operation.Renew m ∷ later) earlier a h i is had = seen_behind later earlier a h i is had
+seen_behind (operation.Lock l p ∷ later) earlier a h i is had = seen_behind later earlier a h i is had

@@ -60,6 +60,7 @@ has_chain [] h i is = absurd (cc)
 has_chain (operation.Access a ∷ past) h i is = by_access past a h i (h == a.thread) (i == length past) (seen past h i) (is_same h a.thread) (is_same i (length past)) (has_chain past h i) is
 has_chain (operation.Pass from to p ∷ past) h i is = by_pass past from to p h i (seen past h i) (h == to) (seen past from i) (has_chain past h i) (is_same h to) (has_chain past from i) is
 has_chain (operation.Renew m ∷ past) h i is = goes_on past (operation.Renew m) h i (has_chain past h i is)
+has_chain (operation.Lock l p ∷ past) h i is = goes_on past (operation.Lock l p) h i (has_chain past h i is)
 
 -- WHAT A CHAIN LEADS TO IS SEEN
 
@@ -79,6 +80,7 @@ still_seen : (past : History) (q : Operation) (h i : ℕ) → seen past h i ≡ 
 still_seen past (operation.Access a) h i is = or_second (h == a.thread && i == length past) (seen past h i) is
 still_seen past (operation.Pass from to p) h i is = or_first (seen past h i) (h == to && seen past from i) is
 still_seen past (operation.Renew m) h i is = is
+still_seen past (operation.Lock l p) h i is = is
 
 own_seen : (past : History) (q : Operation) (a : Access) (h i : ℕ) → i ≡ length past → q ≡ operation.Access a → a.thread ≡ h → seen (q ∷ past) h i ≡ true
 own_seen past q a h i last is of_it = subst (λ o. seen (o ∷ past) h i ≡ true) (sym is)

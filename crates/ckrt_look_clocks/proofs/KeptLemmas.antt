@@ -97,6 +97,7 @@ found_behind a b [] past n words found = found
 found_behind a b (operation.Access y ∷ later) past n words found = found_at a b y (slice_get (watched (later ++ past) n words).shadow (word_of y)) (watched (later ++ past) n words) (found_behind a b later past n words found)
 found_behind a b (operation.Pass from to p ∷ later) past n words found = found_behind a b later past n words found
 found_behind a b (operation.Renew m ∷ later) past n words found = found_behind a b later past n words found
+found_behind a b (operation.Lock l p ∷ later) past n words found = found_behind a b later past n words found
 
 -- A RACE THAT IS NOTED IS FOUND
 

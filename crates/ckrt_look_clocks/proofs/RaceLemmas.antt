@@ -231,6 +231,12 @@ are_races n words (operation.Renew m ∷ past) all orderly =
       shadow = all_renewed (q ∷ past) (few_words m shadow) m shadow (all_stay past q shadow are.shadow);
       pairs = all_go_on past q (watched past n words).found.pairs are.pairs;
     }
+are_races n words (operation.Lock l p ∷ past) all orderly =
+    let are = are_races n words past all orderly.0 in
+    record {
+      shadow = all_stay past (operation.Lock l p) (watched past n words).shadow are.shadow;
+      pairs = all_go_on past (operation.Lock l p) (watched past n words).found.pairs are.pairs;
+    }
 
 pub only_races : OnlyRacesAreFound
 only_races n words past all orderly = (are_races n words past all orderly).pairs

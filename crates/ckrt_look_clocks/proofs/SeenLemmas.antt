@@ -1,6 +1,7 @@
 -- What is seen, and what clocks tell of it.
 use Rattle.std.proofs.Common.{◌≡◌, ◌≢◌, ◌≤◌, ◌<◌, ℕ, suc, ◌+◌, max, nat_lt, ◌==◌, ◌||◌, ◌&&◌, Bool, true, false, List, [], ◌∷◌, length, slice_get, Option, Some, None, refl, sym, ap, ◌∙◌, subst, arith}
 use Rattle.ckrt_look_clocks.specs.declared.operation.Place.{Place}
+use Rattle.ckrt_look_clocks.specs.declared.lock.Locking.{Locking}
 use Rattle.ckrt_look_clocks.specs.declared.operation.Access.{Access}
 use Rattle.ckrt_look_clocks.specs.declared.operation.Block.{Block}
 use Rattle.ckrt_look_clocks.specs.declared.operation.Operation.{Operation}
@@ -67,6 +68,7 @@ seen_below [] h i is = absurd (cc)
 seen_below (operation.Access a ∷ past) h i is = below_access (h == a.thread) (i == length past) (seen past h i) i (length past) (is_same i (length past)) (seen_below past h i) is
 seen_below (operation.Pass from to p ∷ past) h i is = below_pass (seen past h i) (h == to) (seen past from i) i (length past) (seen_below past h i) (seen_below past from i) is
 seen_below (operation.Renew m ∷ past) h i is = omega (arith, seen_below past h i is)
+seen_below (operation.Lock l p ∷ past) h i is = omega (arith, seen_below past h i is)
 
 unseen_yet : (past : History) (h i : ℕ) → i ≡ length past → seen past h i ≡ false
 unseen_yet past h i is = go (seen past h i) refl
@@ -231,8 +233,23 @@ module _ (n words : ℕ) (past : History) (m : Block) (told : Tell n words past)
     exact = λ h i a l is. told.exact h i a l (earlier_than i a is);
   }
 
+-- a lock that is taken or given up
+module _ (n words : ℕ) (past : History) (l : Locking) (p : Place) (told : Tell n words past) (rises : next_moment past ≤ moment p) where
+  earlier_still : (i : ℕ) (a : Access) → op_at (operation.Lock l p ∷ past) i ≡ Some (operation.Access a) → op_at past i ≡ Some (operation.Access a)
+  earlier_still i a is = op_case past (operation.Lock l p) (operation.Access a) i is (λ e same. absurd (cc)) (λ e rest. rest)
+
+  tell_lock : Tell n words (operation.Lock l p ∷ past)
+  tell_lock = record {
+    clocks = told.clocks;
+    low = λ h u. omega (arith, told.low h u, rises);
+    earlier = λ i a is. omega (arith, told.earlier i a (earlier_still i a is), rises);
+    threads = λ i a is. told.threads i a (earlier_still i a is);
+    exact = λ h i a less is. told.exact h i a less (earlier_still i a is);
+  }
+
 pub tells : (n words : ℕ) (past : History) → IsOrderly n past → Tell n words past
 tells n words [] orderly = tell_nothing n words
 tells n words (operation.Access b ∷ past) orderly = tell_access n words past b (tells n words past orderly.0) orderly.1 orderly.2
 tells n words (operation.Pass from to p ∷ past) orderly = tell_pass n words past from to p (tells n words past orderly.0) orderly.1.0 orderly.1.1 orderly.2
 tells n words (operation.Renew m ∷ past) orderly = tell_renewal n words past m (tells n words past orderly.0) orderly.2
+tells n words (operation.Lock l p ∷ past) orderly = tell_lock n words past l p (tells n words past orderly.0) orderly.2

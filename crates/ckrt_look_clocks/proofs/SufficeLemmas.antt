@@ -89,6 +89,7 @@ renewed_size (suc n) m l = length-set (renewed n m l) (m.first + n) (given_with 
 pub behind_size : (o : Operation) (w : Watched) → length (behind o w).shadow ≡ length w.shadow
 behind_size (operation.Access a) w = access_size a (slice_get w.shadow (word_of a)) w
 behind_size (operation.Pass from to p) w = refl
+behind_size (operation.Lock l p) w = refl
 behind_size (operation.Renew m) w = renewed_size (few_words m w.shadow) m w.shadow
 
 slots_suffice : (words : ℕ) (o : Operation) (w : Watched) (s : Slots) → length w.shadow ≡ words → Suffices words s → Suffices words (slots_for o w s)
@@ -101,6 +102,7 @@ slots_suffice words (operation.Access a) w s size is = go (nat_lt (word_of a) (l
         (touched_suffices words (word_of a / 1024) s (omega (arith, less, size)) is)
     go false e = subst (Suffices words) (sym (passed_over (nat_lt (word_of a) (length w.shadow)) (touched (word_of a / 1024) s) s e)) is
 slots_suffice words (operation.Pass from to p) w s size is = is
+slots_suffice words (operation.Lock l p) w s size is = is
 slots_suffice words (operation.Renew m) w s size is = go (few_words m w.shadow) refl
   where
     go : (n : ℕ) → n ≡ few_words m w.shadow → Suffices words (touched_parts (parts_over n m.first) (m.first / 1024) s)

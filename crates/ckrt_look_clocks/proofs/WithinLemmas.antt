@@ -11,6 +11,7 @@ use Rattle.ckrt_look_clocks.specs.declared.operation.Operation.{Operation}
 use Rattle.ckrt_look_clocks.specs.declared.operation.Operation.TheVariants as operation
 use Rattle.ckrt_look_clocks.specs.declared.shadow.Cell.{Cell}
 use Rattle.ckrt_look_clocks.specs.Detection.{Found, Watched, access_at, behind, behind_all, compared_all, few_words, kept, no_accesses, renewed, word_of}
+use Rattle.ckrt_look_clocks.specs.LockHistories.{Ordered}
 use Rattle.ckrt_look_clocks.specs.Parts.{HaveSlots, Shadowed, Slots, has_slot, parts_over, taking, touched, touched_parts}
 use Rattle.ckrt_look_clocks.specs.Within.{Detected, NothingIsLeftOut, noted_all, noted_one, detected_by, fresh_within, is_full, noted_with, slots_for}
 use Rattle.ckrt_look_clocks.proofs.ListLemmas.{chosen, passed_over}
@@ -35,46 +36,46 @@ pub noted_open : (s : Slots) (o : Operation) (w : Watched) → s.is_full ≡ fal
 noted_open s o w e = ap (λ (v : Watched). with_watched s v) (sym (passed_over s.is_full w (behind o w) e))
 
 -- AN ACCESS
-module _ (clocks : List Clock) (a : Access) (s : Shadowed) (f : Found) where
-  pub access_full : s.slots.is_full ≡ true → detected_by clocks s f ≡ noted_one (operation.Access a) (detected_by clocks s f)
-  access_full full = within_none (operation.Access a) (detected_by clocks s f) full
+module _ (clocks : List Clock) (a : Access) (s : Shadowed) (f : Found) (r : Ordered) where
+  pub access_full : s.slots.is_full ≡ true → detected_by clocks s f r ≡ noted_one (operation.Access a) (detected_by clocks s f r)
+  access_full full = within_none (operation.Access a) (detected_by clocks s f r) full
 
-  same_slots : length s.cells ≤ word_of a → slots_for (operation.Access a) (detected_by clocks s f).watched s.slots ≡ s.slots
+  same_slots : length s.cells ≤ word_of a → slots_for (operation.Access a) (detected_by clocks s f r).watched s.slots ≡ s.slots
   same_slots beyond = passed_over (nat_lt (word_of a) (length s.cells)) (touched (word_of a / 1024) s.slots) s.slots (not_less_test (word_of a) (length s.cells) beyond)
 
   -- of a word that the memory hasn't got
-  pub access_beyond : s.slots.is_full ≡ false → length s.cells ≤ word_of a → detected_by clocks s f ≡ noted_one (operation.Access a) (detected_by clocks s f)
+  pub access_beyond : s.slots.is_full ≡ false → length s.cells ≤ word_of a → detected_by clocks s f r ≡ noted_one (operation.Access a) (detected_by clocks s f r)
   access_beyond left beyond =
-      let w : Watched = (detected_by clocks s f).watched in
+      let w : Watched = (detected_by clocks s f r).watched in
       ap (λ (v : Watched). with_watched s.slots v) (sym (ap (λ c. access_at a c w) (slice_get_past s.cells (word_of a) beyond)))
       ∙ noted_open s.slots (operation.Access a) w left
-      ∙ within_some (operation.Access a) (detected_by clocks s f) s.slots left (same_slots beyond)
+      ∙ within_some (operation.Access a) (detected_by clocks s f r) s.slots left (same_slots beyond)
 
   -- of a word whose part is touched
-  touching : word_of a < length s.cells → slots_for (operation.Access a) (detected_by clocks s f).watched s.slots ≡ touched (word_of a / 1024) s.slots
+  touching : word_of a < length s.cells → slots_for (operation.Access a) (detected_by clocks s f r).watched s.slots ≡ touched (word_of a / 1024) s.slots
   touching inside = chosen (nat_lt (word_of a) (length s.cells)) (touched (word_of a / 1024) s.slots) s.slots (less_test (word_of a) (length s.cells) inside)
 
   pub access_used_up : (t : Shadowed) → s.slots.is_full ≡ false → word_of a < length s.cells → t.slots ≡ touched (word_of a / 1024) s.slots → t.cells ≡ s.cells → t.slots.is_full ≡ true
-      → detected_by clocks t f ≡ noted_one (operation.Access a) (detected_by clocks s f)
+      → detected_by clocks t f r ≡ noted_one (operation.Access a) (detected_by clocks s f r)
   access_used_up t left inside slots cells full =
-      let w : Watched = (detected_by clocks s f).watched in
-      ap (λ (l : List Cell). with_watched t.slots (record { clocks = clocks; shadow = l; found = f })) cells
+      let w : Watched = (detected_by clocks s f r).watched in
+      ap (λ (l : List Cell). with_watched t.slots (record { clocks = clocks; shadow = l; found = f; orders = r })) cells
       ∙ noted_full t.slots (operation.Access a) w full
-      ∙ within_some (operation.Access a) (detected_by clocks s f) t.slots left (touching inside ∙ sym slots)
+      ∙ within_some (operation.Access a) (detected_by clocks s f r) t.slots left (touching inside ∙ sym slots)
 
   pub access_noted : (t u : Shadowed) (g : Found) → s.slots.is_full ≡ false → word_of a < length s.cells → t.slots ≡ touched (word_of a / 1024) s.slots → t.cells ≡ s.cells → t.slots.is_full ≡ false
       → u.slots ≡ t.slots → u.cells ≡ slice_set t.cells (word_of a) (kept a (get_or t.cells (word_of a) no_accesses)) → g ≡ compared_all clocks a (get_or t.cells (word_of a) no_accesses) f
-      → detected_by clocks u g ≡ noted_one (operation.Access a) (detected_by clocks s f)
+      → detected_by clocks u g r ≡ noted_one (operation.Access a) (detected_by clocks s f r)
   access_noted t u g left inside slots cells left' stay written found =
-      let w : Watched = (detected_by clocks s f).watched in
-      let made : Cell → List Cell → Watched = λ c l. (record { clocks = clocks; shadow = slice_set l (word_of a) (kept a c); found = compared_all clocks a c f }) in
-      ap (λ (l : List Cell). with_watched u.slots (record { clocks = clocks; shadow = l; found = g })) written
-      ∙ ap (λ (h : Found). with_watched u.slots (record { clocks = clocks; shadow = slice_set t.cells (word_of a) (kept a (get_or t.cells (word_of a) no_accesses)); found = h })) found
+      let w : Watched = (detected_by clocks s f r).watched in
+      let made : Cell → List Cell → Watched = λ c l. (record { clocks = clocks; shadow = slice_set l (word_of a) (kept a c); found = compared_all clocks a c f; orders = r }) in
+      ap (λ (l : List Cell). with_watched u.slots (record { clocks = clocks; shadow = l; found = g; orders = r })) written
+      ∙ ap (λ (h : Found). with_watched u.slots (record { clocks = clocks; shadow = slice_set t.cells (word_of a) (kept a (get_or t.cells (word_of a) no_accesses)); found = h; orders = r })) found
       ∙ ap (λ (l : List Cell). with_watched u.slots (made (get_or l (word_of a) no_accesses) l)) cells
       ∙ ap (λ (v : Watched). with_watched u.slots v) (sym (ap (λ c. access_at a c w) (slice_get-get_or s.cells (word_of a) no_accesses inside)))
       ∙ ap (λ (p : Slots). with_watched p (behind (operation.Access a) w)) stay
       ∙ noted_open t.slots (operation.Access a) w left'
-      ∙ within_some (operation.Access a) (detected_by clocks s f) t.slots left (touching inside ∙ sym slots)
+      ∙ within_some (operation.Access a) (detected_by clocks s f r) t.slots left (touching inside ∙ sym slots)
 
 -- PARTS THAT ARE TOUCHED
 
@@ -170,42 +171,42 @@ words_have n first s some inside left word ge lt =
     have_now (parts_over n first) (first / 1024) s inside left (word / 1024) (omega (arith, ge)) (omega (arith, some_parts n first some, ge, lt, some))
 
 -- MEMORY THAT IS GIVEN ANEW
-module _ (clocks : List Clock) (m : Block) (s : Shadowed) (f : Found) where
-  pub renew_full : s.slots.is_full ≡ true → detected_by clocks s f ≡ noted_one (operation.Renew m) (detected_by clocks s f)
-  renew_full full = within_none (operation.Renew m) (detected_by clocks s f) full
+module _ (clocks : List Clock) (m : Block) (s : Shadowed) (f : Found) (r : Ordered) where
+  pub renew_full : s.slots.is_full ≡ true → detected_by clocks s f r ≡ noted_one (operation.Renew m) (detected_by clocks s f r)
+  renew_full full = within_none (operation.Renew m) (detected_by clocks s f r) full
 
-  few_slots : (n : ℕ) → n ≡ few_words m s.cells → slots_for (operation.Renew m) (detected_by clocks s f).watched s.slots ≡ touched_parts (parts_over n m.first) (m.first / 1024) s.slots
+  few_slots : (n : ℕ) → n ≡ few_words m s.cells → slots_for (operation.Renew m) (detected_by clocks s f r).watched s.slots ≡ touched_parts (parts_over n m.first) (m.first / 1024) s.slots
   few_slots n is = ap (λ k. touched_parts (parts_over k m.first) (m.first / 1024) s.slots) (sym is)
 
   few_renewed : (n : ℕ) (c : List Cell) → n ≡ few_words m s.cells → c ≡ s.cells
-      → (let x : Watched = record { clocks = clocks; shadow = renewed n m c; found = f } in x) ≡ behind (operation.Renew m) (detected_by clocks s f).watched
+      → (let x : Watched = record { clocks = clocks; shadow = renewed n m c; found = f; orders = r } in x) ≡ behind (operation.Renew m) (detected_by clocks s f r).watched
   few_renewed n c is cells =
-      ap (λ (l : List Cell). (let x : Watched = record { clocks = clocks; shadow = renewed n m l; found = f } in x)) cells
-      ∙ ap (λ k. (let x : Watched = record { clocks = clocks; shadow = renewed k m s.cells; found = f } in x)) is
+      ap (λ (l : List Cell). (let x : Watched = record { clocks = clocks; shadow = renewed n m l; found = f; orders = r } in x)) cells
+      ∙ ap (λ k. (let x : Watched = record { clocks = clocks; shadow = renewed k m s.cells; found = f; orders = r } in x)) is
 
   -- where the memory has none of its words
-  pub renew_none : (n : ℕ) → s.slots.is_full ≡ false → n ≡ few_words m s.cells → n ≡ 0 → detected_by clocks s f ≡ noted_one (operation.Renew m) (detected_by clocks s f)
+  pub renew_none : (n : ℕ) → s.slots.is_full ≡ false → n ≡ few_words m s.cells → n ≡ 0 → detected_by clocks s f r ≡ noted_one (operation.Renew m) (detected_by clocks s f r)
   renew_none n left is none =
       let few : 0 ≡ few_words m s.cells = sym none ∙ is in
       ap (λ (v : Watched). with_watched s.slots v) (few_renewed 0 s.cells few refl)
-      ∙ noted_open s.slots (operation.Renew m) (detected_by clocks s f).watched left
-      ∙ within_some (operation.Renew m) (detected_by clocks s f) s.slots left (few_slots 0 few)
+      ∙ noted_open s.slots (operation.Renew m) (detected_by clocks s f r).watched left
+      ∙ within_some (operation.Renew m) (detected_by clocks s f r) s.slots left (few_slots 0 few)
 
   pub renew_used_up : (n : ℕ) (t : Shadowed) → s.slots.is_full ≡ false → n ≡ few_words m s.cells → t.slots ≡ touched_parts (parts_over n m.first) (m.first / 1024) s.slots → t.cells ≡ s.cells → t.slots.is_full ≡ true
-      → detected_by clocks t f ≡ noted_one (operation.Renew m) (detected_by clocks s f)
+      → detected_by clocks t f r ≡ noted_one (operation.Renew m) (detected_by clocks s f r)
   renew_used_up n t left is slots cells full =
-      ap (λ (l : List Cell). with_watched t.slots (record { clocks = clocks; shadow = l; found = f })) cells
-      ∙ noted_full t.slots (operation.Renew m) (detected_by clocks s f).watched full
-      ∙ within_some (operation.Renew m) (detected_by clocks s f) t.slots left (few_slots n is ∙ sym slots)
+      ap (λ (l : List Cell). with_watched t.slots (record { clocks = clocks; shadow = l; found = f; orders = r })) cells
+      ∙ noted_full t.slots (operation.Renew m) (detected_by clocks s f r).watched full
+      ∙ within_some (operation.Renew m) (detected_by clocks s f r) t.slots left (few_slots n is ∙ sym slots)
 
   pub renew_noted : (n : ℕ) (t u : Shadowed) → s.slots.is_full ≡ false → n ≡ few_words m s.cells → t.slots ≡ touched_parts (parts_over n m.first) (m.first / 1024) s.slots → t.cells ≡ s.cells → t.slots.is_full ≡ false
-      → u.slots ≡ t.slots → u.cells ≡ renewed n m t.cells → detected_by clocks u f ≡ noted_one (operation.Renew m) (detected_by clocks s f)
+      → u.slots ≡ t.slots → u.cells ≡ renewed n m t.cells → detected_by clocks u f r ≡ noted_one (operation.Renew m) (detected_by clocks s f r)
   renew_noted n t u left is slots cells left' stay written =
-      ap (λ (l : List Cell). with_watched u.slots (record { clocks = clocks; shadow = l; found = f })) written
+      ap (λ (l : List Cell). with_watched u.slots (record { clocks = clocks; shadow = l; found = f; orders = r })) written
       ∙ ap (λ (v : Watched). with_watched u.slots v) (few_renewed n t.cells is cells)
-      ∙ ap (λ (p : Slots). with_watched p (behind (operation.Renew m) (detected_by clocks s f).watched)) stay
-      ∙ noted_open t.slots (operation.Renew m) (detected_by clocks s f).watched left'
-      ∙ within_some (operation.Renew m) (detected_by clocks s f) t.slots left (few_slots n is ∙ sym slots)
+      ∙ ap (λ (p : Slots). with_watched p (behind (operation.Renew m) (detected_by clocks s f r).watched)) stay
+      ∙ noted_open t.slots (operation.Renew m) (detected_by clocks s f r).watched left'
+      ∙ within_some (operation.Renew m) (detected_by clocks s f r) t.slots left (few_slots n is ∙ sym slots)
 
 -- NOTHING IS LEFT OUT
 
@@ -217,6 +218,7 @@ for_open (operation.Access a) w s = go (nat_lt (word_of a) (length w.shadow)) re
     go true e left = open_before (word_of a / 1024) s (sym (ap (λ (p : Slots). p.is_full) (chosen (nat_lt (word_of a) (length w.shadow)) (touched (word_of a / 1024) s) s e)) ∙ left)
     go false e left = sym (ap (λ (p : Slots). p.is_full) (passed_over (nat_lt (word_of a) (length w.shadow)) (touched (word_of a / 1024) s) s e)) ∙ left
 for_open (operation.Pass from to p) w s = λ left. left
+for_open (operation.Lock l p) w s = λ left. left
 for_open (operation.Renew m) w s = open_before_all (parts_over (few_words m w.shadow) m.first) (m.first / 1024) s
 
 pub open_one : (o : Operation) (d : Detected) → is_full (noted_one o d) ≡ false → is_full d ≡ false

@@ -14,6 +14,7 @@ use Rattle.ckrt_look_clocks.specs.declared.found.Findings.{Findings}
 use Rattle.ckrt_look_clocks.specs.declared.pair.Pair.{Pair}
 use Rattle.ckrt_look_clocks.specs.declared.pair.TheConstants.{PAIRS}
 use Rattle.ckrt_look_clocks.specs.Histories.{History, conflict, is_before}
+use Rattle.ckrt_look_clocks.specs.LockHistories.{Ordered, behind_lock, no_orders}
 
 -- CLOCKS: of each thread, the place before which all its accesses are seen
 
@@ -151,11 +152,12 @@ compared_all clocks b c f =
 
 -- OPERATION BY OPERATION
 
--- the clocks of all holders, the shadow of each word from address 0 on, and what was found
+-- the clocks of all holders, the shadow of each word from address 0 on, what was found, and what is known of locks
 pub record Watched : Type 0 where
   pub clocks : List Clock
   pub shadow : List Cell
   pub found : Found
+  pub orders : Ordered
 
 abbrev pub word_of : Access → ℕ
 word_of a = a.address / 4
@@ -163,8 +165,7 @@ word_of a = a.address / 4
 -- an access to a word with this shadow; a word outside the memory has none
 abbrev pub access_at : Access → Option Cell → Watched → Watched
 access_at a None w = w
-access_at a (Some c) w = record {
-  clocks = w.clocks;
+access_at a (Some c) w = record w {
   shadow = slice_set w.shadow (word_of a) (kept a c);
   found = compared_all w.clocks a c w.found;
 }
@@ -193,6 +194,7 @@ abbrev pub behind : Operation → Watched → Watched
 behind (operation.Access a) w = access_at a (slice_get w.shadow (word_of a)) w
 behind (operation.Pass from to p) w = record w { clocks = passed from to p w.clocks }
 behind (operation.Renew m) w = given_anew m w
+behind (operation.Lock l p) w = record w { orders = behind_lock l w.orders }
 
 -- these operations in order
 abbrev pub behind_all : List Operation → Watched → Watched
@@ -205,6 +207,7 @@ fresh holders words = record {
   clocks = replicate holders no_clock;
   shadow = replicate words no_accesses;
   found = no_findings;
+  orders = no_orders;
 }
 
 -- the same of a whole history

@@ -23,6 +23,7 @@ seen [] h i = false
 seen (operation.Access a ∷ past) h i = (h == a.thread && i == length past) || seen past h i
 seen (operation.Pass from to p ∷ past) h i = seen past h i || (h == to && seen past from i)
 seen (operation.Renew m ∷ past) h i = seen past h i
+seen (operation.Lock l p ∷ past) h i = seen past h i
 
 -- The same as the closure of single passes: a chain leads from an access to its thread, and from there by passes, each later than the
 -- one before and from the holder that this one went to. The numbers of the passes stand latest first, each below the bound.

@@ -30,11 +30,13 @@ abbrev pub HasNumbers : (holders : ℕ) → Operation → Type 0
 HasNumbers holders (operation.Access a) = a.thread < THREADS
 HasNumbers holders (operation.Pass from to p) = (from < holders) × (to < holders)
 HasNumbers holders (operation.Renew m) = Unit {0}
+HasNumbers holders (operation.Lock l p) = Unit {0}
 
 abbrev pub moment_of : Operation → ℕ
 moment_of (operation.Access a) = moment a.place
 moment_of (operation.Pass from to p) = moment p
 moment_of (operation.Renew m) = moment m.place
+moment_of (operation.Lock l p) = moment p
 
 -- from when on another operation may come
 abbrev pub next_moment : History → ℕ
@@ -42,6 +44,7 @@ next_moment [] = 0
 next_moment (operation.Access a ∷ past) = moment a.place + 1
 next_moment (operation.Pass from to p ∷ past) = moment p
 next_moment (operation.Renew m ∷ past) = moment m.place
+next_moment (operation.Lock l p ∷ past) = moment p
 
 abbrev pub IsOrderly : (holders : ℕ) → History → Type 0
 IsOrderly holders [] = Unit {0}

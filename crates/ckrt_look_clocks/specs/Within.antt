@@ -4,6 +4,7 @@ use Rattle.ckrt_look_clocks.specs.declared.clock.Clock.{Clock}
 use Rattle.ckrt_look_clocks.specs.declared.operation.Operation.{Operation}
 use Rattle.ckrt_look_clocks.specs.declared.operation.Operation.TheVariants as operation
 use Rattle.ckrt_look_clocks.specs.Detection.{Found, Watched, behind, behind_all, few_words, fresh, word_of}
+use Rattle.ckrt_look_clocks.specs.LockHistories.{Ordered}
 use Rattle.ckrt_look_clocks.specs.Parts.{Shadowed, Slots, no_slots, parts_over, touched, touched_parts}
 
 -- what was watched, and the slots
@@ -11,9 +12,9 @@ pub record Detected : Type 0 where
   pub watched : Watched
   pub slots : Slots
 
-abbrev pub detected_by : List Clock → Shadowed → Found → Detected
-detected_by clocks s found = record {
-  watched = record { clocks = clocks; shadow = s.cells; found = found };
+abbrev pub detected_by : List Clock → Shadowed → Found → Ordered → Detected
+detected_by clocks s found orders = record {
+  watched = record { clocks = clocks; shadow = s.cells; found = found; orders = orders };
   slots = s.slots;
 }
 
@@ -25,6 +26,7 @@ abbrev pub slots_for : Operation → Watched → Slots → Slots
 slots_for (operation.Access a) w s =
     if nat_lt (word_of a) (length w.shadow) then touched (word_of a / 1024) s else s
 slots_for (operation.Pass from to p) w s = s
+slots_for (operation.Lock l p) w s = s
 slots_for (operation.Renew m) w s =
     touched_parts (parts_over (few_words m w.shadow) m.first) (m.first / 1024) s
 

@@ -5,27 +5,33 @@ ghost use Rattle.ckrt_look_clocks.specs.Detection.{no_clock};
 
 use crate::clock::{Clock, no_clock, pass};
 use crate::found::Findings;
+use crate::inversion::Inversion;
+use crate::lock::Locking;
+use crate::locks::Locks;
 use crate::operation::{Access, Block, Operation, Place};
 use crate::pair::Pair;
 use crate::parts::Shadow;
 use std::alloc::{AllocError, Global};
 use std::marker::Model;
 
-/// What each holder has seen, the last accesses to each word of memory, and which of all accesses raced.
+/// What each holder has seen, the last accesses to each word of memory, which of all accesses raced, and in which orders locks were taken.
 #[derive(Drop)]
 pub struct Detector {
     clocks: Vec<Clock>,
     shadow: Shadow,
     found: Findings,
+    locks: Locks,
 }
 
 impl Model for Detector {
     ghost use Rattle.ckrt_look_clocks.specs.Detection.{found_in};
+    ghost use Rattle.ckrt_look_clocks.specs.LockHistories.{ordered_in};
     ghost use Rattle.ckrt_look_clocks.specs.Within.{Detected, detected_by};
 
     ghost Value = { Detected };
 
-    ghost view = { λ d. detected_by d.clocks.items d.shadow (found_in d.found) };
+    ghost view = { λ d. detected_by d.clocks.items d.shadow (found_in d.found)
+        (ordered_in d.locks) };
 }
 
 /// Holders that have seen nothing.
@@ -65,6 +71,7 @@ impl Detector {
             clocks: fresh_clocks(alloc, holders)?,
             shadow: Shadow::new(alloc, words, slots)?,
             found: Findings::new(alloc)?,
+            locks: Locks::new(alloc)?,
         })
     }
 
@@ -77,6 +84,7 @@ impl Detector {
         clear_clocks(&mut self.clocks);
         self.shadow.clear();
         self.found.clear();
+        self.locks.clear();
     }
 
     /// Whether the room is used up: a part more was touched than there are slots. Then nothing is noted any more.
@@ -110,6 +118,15 @@ impl Detector {
         self.shadow.renew(block);
     }
 
+    /// A thread takes or gives up a lock, or one is made.
+    fn lock(&mut self, locking: &Locking, place: Place)
+        ensures { self.new ≡ noted_one (operation.Lock locking.now place) self.old }
+    {
+        if !self.shadow.is_full() {
+            self.locks.note(locking);
+        }
+    }
+
     /// The next operation.
     pub fn note(&mut self, operation: &Operation)
         ensures { self.new ≡ noted_one operation.now self.old }
@@ -118,6 +135,7 @@ impl Detector {
             Operation::Access(access) => self.access(access),
             Operation::Pass(from, to, place) => self.pass(*from, *to, *place),
             Operation::Renew(block) => self.renew(block),
+            Operation::Lock(locking, place) => self.lock(locking, *place),
         }
     }
 
@@ -133,5 +151,26 @@ impl Detector {
         ensures { result ≡ self.now.watched.found.others }
     {
         self.found.others
+    }
+
+    /// The cycles of orders in which threads took locks, in the order in which they were found.
+    pub fn inversions(&self) -> &[Inversion]
+        ensures { result.now ≡ self.now.watched.orders.found.rows }
+    {
+        self.locks.rows()
+    }
+
+    /// How often there was a cycle for whose places no row was left.
+    pub fn other_inversions(&self) -> u64
+        ensures { result ≡ self.now.watched.orders.found.others }
+    {
+        self.locks.others()
+    }
+
+    /// Whether the room of orders was used up: from then on none was noted.
+    pub fn are_orders_full(&self) -> bool
+        ensures { result ≡ self.now.watched.orders.is_full }
+    {
+        self.locks.is_full()
     }
 }

@@ -2,6 +2,8 @@
 ghost use Rattle.std.specs.Prelude.{◌≡◌};
 ghost use Rattle.ckrt_look_clocks.specs.Histories.{is_before, have_common_byte, conflict};
 
+use crate::lock::Locking;
+
 /// The numbers of threads are below this.
 pub const THREADS: usize = 65;
 
@@ -46,6 +48,8 @@ pub enum Operation {
     Pass(u16, u16, Place),
     /// Memory is given anew: what was done to it before is compared with nothing.
     Renew(Block),
+    /// A lock is taken, given up or made, at a place.
+    Lock(Locking, Place),
 }
 
 /// Whether a place is before another.

@@ -3,6 +3,7 @@ ghost use Rattle.std.specs.Prelude.{◌≡◌, ◌≤◌, ◌<◌, ◌+◌, ◌*
 ghost use Rattle.ckrt_look_clocks.specs.declared.clock.Clock.{Clock as ClockValue};
 ghost use Rattle.ckrt_look_clocks.specs.declared.operation.Operation.TheVariants as operation;
 ghost use Rattle.ckrt_look_clocks.specs.Detection.{Found, compared_all, few_words, found_in, given_with, kept, no_accesses, renewed};
+ghost use Rattle.ckrt_look_clocks.specs.LockHistories.{Ordered};
 ghost use Rattle.ckrt_look_clocks.specs.Parts.{HaveSlots, has_slot, parts_over, taking, touched, touched_parts};
 
 use crate::clock::Clock;
@@ -232,9 +233,10 @@ impl Shadow {
 
     /// A thread loads or stores.
     pub(crate) fn access(&mut self, clocks: &[Clock], access: &Access, found: &mut Findings)
-        ensures { detected_by clocks.now self.new (found_in found.new)
+        ensures { (orders : Ordered)
+            → detected_by clocks.now self.new (found_in found.new) orders
             ≡ noted_one (operation.Access access.now)
-            (detected_by clocks.now self.old (found_in found.old)) }
+            (detected_by clocks.now self.old (found_in found.old) orders) }
     {
         let word = (access.address / 4) as usize;
         if self.is_full || word >= self.words {
@@ -291,9 +293,9 @@ impl Shadow {
 
     /// Memory is given anew.
     pub(crate) fn renew(&mut self, block: &Block)
-        ensures { (clocks : List ClockValue) (found : Found)
-            → detected_by clocks self.new found
-            ≡ noted_one (operation.Renew block.now) (detected_by clocks self.old found) }
+        ensures { (clocks : List ClockValue) (found : Found) (orders : Ordered)
+            → detected_by clocks self.new found orders
+            ≡ noted_one (operation.Renew block.now) (detected_by clocks self.old found orders) }
     {
         let few = self.few_words(block);
         if self.is_full || few == 0 {

@@ -4,3 +4,4 @@ pub mod ReplayLemmas
 pub mod WalkLemmas
 pub mod NumberLemmas
 pub mod RiseLemmas
+pub mod CycleLemmas

@@ -1,15 +1,15 @@
 -- Operations that order have the numbers of holders, and the place of their step.
-use Rattle.std.proofs.Common.{◌≡◌, ◌<◌, ℕ, nat_le, Bool, true, false, if◌then◌else◌, List, [], ◌∷◌, ◌++◌, Option, Some, None, refl, arith}
+use Rattle.std.proofs.Common.{◌≡◌, ◌<◌, ℕ, nat_le, Bool, true, false, if◌then◌else◌, List, [], ◌∷◌, ◌++◌, Option, Some, None, is_none, refl, arith}
 use Rattle.std.proofs.lemmas.Bool.Decides.{nat_tests}
 use Rattle.std.specs.List.{AllByRecursion, flat_map}
-use Rattle.ckrt_registers.specs.Registers.{get}
+use Rattle.ckrt_registers.specs.Registers.{Registers, get}
 use Rattle.ckrt_thread.specs.declared.records.Reason.{Reason}
 use Rattle.ckrt_thread.specs.declared.records.Reason.TheVariants as reason
 use Rattle.ckrt_thread.specs.declared.records.Wait.{Wait}
 use Rattle.ckrt_thread.specs.State as threads
 use Rattle.ckrt_mutex.specs.Mutex.{is_owner, mutex_at}
 use Rattle.ckrt_barrier.specs.Rows.{SERIAL_THREAD}
-use Rattle.ckrt_rwlock.specs.RwLock.{is_reader, is_writer, lock_at}
+use Rattle.ckrt_rwlock.specs.RwLock.{is_holder, is_reader, is_writer, lock_at}
 use Rattle.ckrt_calls.specs.declared.table.Tables.{Tables}
 use Rattle.ckrt_calls.specs.declared.number.Call.{Call}
 use Rattle.ckrt_calls.specs.declared.number.Call.TheVariants as call
@@ -27,6 +27,9 @@ use Rattle.ckrt_calls.specs.declared.number.CancellationCall.{CancellationCall}
 use Rattle.ckrt_calls.specs.declared.number.CancellationCall.TheVariants as cancellation_call
 use Rattle.ckrt_calls.specs.Table.{call_of}
 use Rattle.ckrt_look_calls.specs.declared.lines.Caller.{Caller}
+use Rattle.ckrt_look_clocks.specs.declared.lock.LockName.{LockName}
+use Rattle.ckrt_look_clocks.specs.declared.lock.LockName.TheVariants as name
+use Rattle.ckrt_look_clocks.specs.declared.lock.Locking.TheVariants as locking
 use Rattle.ckrt_look_clocks.specs.declared.operation.Place.{Place}
 use Rattle.ckrt_look_clocks.specs.declared.operation.Operation.{Operation}
 use Rattle.ckrt_look_clocks.specs.declared.operation.Operation.TheVariants as operation
@@ -35,6 +38,7 @@ use Rattle.ckrt_look_races.specs.declared.holders.Lock.{Lock}
 use Rattle.ckrt_look_races.specs.declared.holders.Lock.TheVariants as lock
 use Rattle.ckrt_look_races.specs.Holders.{HOLDERS, acquired, lock_holder, ordered, released, thread_holder}
 use Rattle.ckrt_look_races.specs.Kit.{is_of_kit, unless_of_kit}
+use Rattle.ckrt_look_races.specs.Locking.{begins, gives_up, gives_up_unless, made_anew, takes, taking_by, taking_of}
 use Rattle.ckrt_look_races.specs.Orders as orders
 
 -- NUMBERS
@@ -55,10 +59,11 @@ lock_number (lock.Request t) = omega (arith, thread_number t)
 lock_number (lock.Loaded t) = omega (arith, thread_number t)
 lock_number (lock.Fenced t) = omega (arith, thread_number t)
 
--- a pass at a place
+-- a pass at a place, or what is done with a lock there
 abbrev pub IsPassAt : Place → Operation → Type 0
 IsPassAt p (operation.Access a) = ⊥
 IsPassAt p (operation.Renew b) = ⊥
+IsPassAt p (operation.Lock l q) = q ≡ p
 IsPassAt p (operation.Pass from to q) = (from < HOLDERS) × (to < HOLDERS) × (q ≡ p)
 
 abbrev pub ArePassesAt : Place → List Operation → Type 0
@@ -95,17 +100,30 @@ each p f [] are = tt
 each p f (w ∷ ws) are = both p (f w) (flat_map f ws) (are w) (each p f ws are)
 
 module _ (p : Place) where
-  mutex_passes : (t a : ℕ) (after : Tables) → ArePassesAt p (orders.taken_mutex p t a after)
-  mutex_passes t a after = if_so p (is_owner t (mutex_at a after.mutexes)) (unless_of_kit a (acquired t (lock.Mutex a) p ∷ []))
-      (unless_kit p a (acquired t (lock.Mutex a) p ∷ []) (is_acquisition t (lock.Mutex a) p, tt))
+  taking_at : (t : ℕ) (l : LockName) (reads : Bool) (g : Option Registers) → (taking_by l reads p g).place ≡ p
+  taking_at t l reads None = refl
+  taking_at t l reads (Some g) = refl
 
-  read_passes : (t a : ℕ) (after : Tables) → ArePassesAt p (orders.taken_to_read p t a after)
-  read_passes t a after = if_so p (is_reader t (lock_at a after.rwlocks)) (unless_of_kit a (acquired t (lock.Writers a) p ∷ []))
-      (unless_kit p a (acquired t (lock.Writers a) p ∷ []) (is_acquisition t (lock.Writers a) p, tt))
+  taken_at : (t : ℕ) (w : Bool) (l : LockName) (reads : Bool) (after : Tables) → IsPassAt p (takes t w (taking_of t l reads p after))
+  taken_at t w l reads after = taking_at t l reads (threads.regs_of (threads.thread_of after.threads t))
 
-  write_passes : (t a : ℕ) (after : Tables) → ArePassesAt p (orders.taken_to_write p t a after)
-  write_passes t a after = if_so p (is_writer t (lock_at a after.rwlocks)) (unless_of_kit a (acquired t (lock.Writers a) p ∷ acquired t (lock.Readers a) p ∷ []))
-      (unless_kit p a (acquired t (lock.Writers a) p ∷ acquired t (lock.Readers a) p ∷ []) (is_acquisition t (lock.Writers a) p, (is_acquisition t (lock.Readers a) p, tt)))
+  mutex_passes : (t : ℕ) (w : Bool) (a : ℕ) (after : Tables) → ArePassesAt p (orders.taken_mutex p t w a after)
+  mutex_passes t w a after =
+      let os : List Operation = acquired t (lock.Mutex a) p ∷ takes t w (taking_of t (name.Mutex a) false p after) ∷ [] in
+      if_so p (is_owner t (mutex_at a after.mutexes)) (unless_of_kit a os)
+      (unless_kit p a os (is_acquisition t (lock.Mutex a) p, (taken_at t w (name.Mutex a) false after, tt)))
+
+  read_passes : (t : ℕ) (w : Bool) (a : ℕ) (after : Tables) → ArePassesAt p (orders.taken_to_read p t w a after)
+  read_passes t w a after =
+      let os : List Operation = acquired t (lock.Writers a) p ∷ takes t w (taking_of t (name.RwLock a) true p after) ∷ [] in
+      if_so p (is_reader t (lock_at a after.rwlocks)) (unless_of_kit a os)
+      (unless_kit p a os (is_acquisition t (lock.Writers a) p, (taken_at t w (name.RwLock a) true after, tt)))
+
+  write_passes : (t : ℕ) (w : Bool) (a : ℕ) (after : Tables) → ArePassesAt p (orders.taken_to_write p t w a after)
+  write_passes t w a after =
+      let os : List Operation = acquired t (lock.Writers a) p ∷ acquired t (lock.Readers a) p ∷ takes t w (taking_of t (name.RwLock a) false p after) ∷ [] in
+      if_so p (is_writer t (lock_at a after.rwlocks)) (unless_of_kit a os)
+      (unless_kit p a os (is_acquisition t (lock.Writers a) p, (is_acquisition t (lock.Readers a) p, (taken_at t w (name.RwLock a) false after, tt))))
 
   request_passes : (t : ℕ) (after : Tables) → ArePassesAt p (orders.taken_request p t after)
   request_passes t after = if_so p (orders.is_cancelled (threads.thread_of after.threads t)) (acquired t (lock.Request t) p ∷ []) (is_acquisition t (lock.Request t) p, tt)
@@ -113,22 +131,32 @@ module _ (p : Place) where
   answered_passes : (v : ℕ) (c : Caller) (after : Tables) (os : List Operation) → ArePassesAt p os → ArePassesAt p (orders.if_answered v c after os)
   answered_passes v c after os are = if_so p (orders.is_answered v c after) os are
 
-  mutex_given_up : (t a : ℕ) → ArePassesAt p (orders.given_up_mutex p t a)
-  mutex_given_up t a = unless_kit p a (released t (lock.Mutex a) p ∷ []) (is_release t (lock.Mutex a) p, tt)
+  given_up_unless : (still : Bool) (t : ℕ) (l : LockName) → ArePassesAt p (gives_up_unless still p t l)
+  given_up_unless still t l = if_not p still (gives_up p t l ∷ []) (refl, tt)
 
-  lock_given_up : (t a : ℕ) (w : Bool) → ArePassesAt p (orders.given_up_lock p t a w)
-  lock_given_up t a w = unless_kit p a (released t (orders.given_up w a) p ∷ []) (is_release t (orders.given_up w a) p, tt)
+  mutex_given_up : (t a : ℕ) (after : Tables) → ArePassesAt p (orders.given_up_mutex p t a after)
+  mutex_given_up t a after =
+      unless_kit p a (released t (lock.Mutex a) p ∷ gives_up_unless (is_owner t (mutex_at a after.mutexes)) p t (name.Mutex a))
+      (is_release t (lock.Mutex a) p, given_up_unless (is_owner t (mutex_at a after.mutexes)) t (name.Mutex a))
+
+  lock_given_up : (t a : ℕ) (w : Bool) (after : Tables) → ArePassesAt p (orders.given_up_lock p t a w after)
+  lock_given_up t a w after =
+      unless_kit p a (released t (orders.given_up w a) p ∷ gives_up_unless (is_holder t (lock_at a after.rwlocks)) p t (name.RwLock a))
+      (is_release t (orders.given_up w a) p, given_up_unless (is_holder t (lock_at a after.rwlocks)) t (name.RwLock a))
+
+  anew_passes : (a : ℕ) (l : LockName) → ArePassesAt p (made_anew p a l)
+  anew_passes a l = unless_kit p a (operation.Lock (locking.Renew l) p ∷ []) (refl, tt)
 
   mutex_call_passes : (m : MutexCall) (c : Caller) (after : Tables) → ArePassesAt p (orders.of_mutex_call p m c after)
-  mutex_call_passes mutex_call.Lock c after = mutex_passes c.thread (get c.regs 10) after
-  mutex_call_passes mutex_call.TryLock c after = mutex_passes c.thread (get c.regs 10) after
-  mutex_call_passes mutex_call.TimedLock c after = mutex_passes c.thread (get c.regs 10) after
-  mutex_call_passes mutex_call.Unlock c after = answered_passes 0 c after (orders.given_up_mutex p c.thread (get c.regs 10)) (mutex_given_up c.thread (get c.regs 10))
-  mutex_call_passes mutex_call.Init c after = tt
-  mutex_call_passes mutex_call.Destroy c after = tt
+  mutex_call_passes mutex_call.Lock c after = mutex_passes c.thread true (get c.regs 10) after
+  mutex_call_passes mutex_call.TryLock c after = mutex_passes c.thread false (get c.regs 10) after
+  mutex_call_passes mutex_call.TimedLock c after = mutex_passes c.thread false (get c.regs 10) after
+  mutex_call_passes mutex_call.Unlock c after = answered_passes 0 c after (orders.given_up_mutex p c.thread (get c.regs 10) after) (mutex_given_up c.thread (get c.regs 10) after)
+  mutex_call_passes mutex_call.Init c after = answered_passes 0 c after (orders.mutex_anew p (get c.regs 10)) (anew_passes (get c.regs 10) (name.Mutex (get c.regs 10)))
+  mutex_call_passes mutex_call.Destroy c after = answered_passes 0 c after (orders.mutex_anew p (get c.regs 10)) (anew_passes (get c.regs 10) (name.Mutex (get c.regs 10)))
 
   begun_passes : (c : Caller) (after : Tables) → ArePassesAt p (orders.begun_wait p c after)
-  begun_passes c after = if_so p (orders.waits_now c.thread after) (orders.given_up_mutex p c.thread (get c.regs 11)) (mutex_given_up c.thread (get c.regs 11))
+  begun_passes c after = if_so p (orders.waits_now c.thread after) (orders.given_up_mutex p c.thread (get c.regs 11) after) (mutex_given_up c.thread (get c.regs 11) after)
 
   condition_call_passes : (m : ConditionCall) (c : Caller) (after : Tables) → ArePassesAt p (orders.of_condition_call p m c after)
   condition_call_passes condition_call.Wait c after = begun_passes c after
@@ -150,17 +178,17 @@ module _ (p : Place) where
   barrier_call_passes barrier_call.Destroy c ws after = tt
 
   rwlock_call_passes : (m : RwLockCall) (c : Caller) (w : Bool) (after : Tables) → ArePassesAt p (orders.of_rwlock_call p m c w after)
-  rwlock_call_passes rwlock_call.RdLock c w after = read_passes c.thread (get c.regs 10) after
-  rwlock_call_passes rwlock_call.TryRdLock c w after = read_passes c.thread (get c.regs 10) after
-  rwlock_call_passes rwlock_call.WrLock c w after = write_passes c.thread (get c.regs 10) after
-  rwlock_call_passes rwlock_call.TryWrLock c w after = write_passes c.thread (get c.regs 10) after
+  rwlock_call_passes rwlock_call.RdLock c w after = read_passes c.thread true (get c.regs 10) after
+  rwlock_call_passes rwlock_call.TryRdLock c w after = read_passes c.thread false (get c.regs 10) after
+  rwlock_call_passes rwlock_call.WrLock c w after = write_passes c.thread true (get c.regs 10) after
+  rwlock_call_passes rwlock_call.TryWrLock c w after = write_passes c.thread false (get c.regs 10) after
   rwlock_call_passes rwlock_call.Unlock c w after =
-      answered_passes 0 c after (orders.given_up_lock p c.thread (get c.regs 10) w) (lock_given_up c.thread (get c.regs 10) w)
-  rwlock_call_passes rwlock_call.Init c w after = tt
-  rwlock_call_passes rwlock_call.Destroy c w after = tt
+      answered_passes 0 c after (orders.given_up_lock p c.thread (get c.regs 10) w after) (lock_given_up c.thread (get c.regs 10) w after)
+  rwlock_call_passes rwlock_call.Init c w after = answered_passes 0 c after (orders.rwlock_anew p (get c.regs 10)) (anew_passes (get c.regs 10) (name.RwLock (get c.regs 10)))
+  rwlock_call_passes rwlock_call.Destroy c w after = answered_passes 0 c after (orders.rwlock_anew p (get c.regs 10)) (anew_passes (get c.regs 10) (name.RwLock (get c.regs 10)))
 
   thread_call_passes : (m : ThreadCall) (c : Caller) (after : Tables) → ArePassesAt p (orders.of_thread_call p m c after)
-  thread_call_passes thread_call.Create c after = answered_passes 0 c after (ordered c.thread (orders.created c after) p ∷ []) (is_order c.thread (orders.created c after) p, tt)
+  thread_call_passes thread_call.Create c after = answered_passes 0 c after (ordered c.thread (orders.created c after) p ∷ begins p (orders.created c after) ∷ []) (is_order c.thread (orders.created c after) p, (refl, tt))
   thread_call_passes thread_call.Join c after = answered_passes 0 c after (ordered (get c.regs 10) c.thread p ∷ []) (is_order (get c.regs 10) c.thread p, tt)
   thread_call_passes thread_call.Detach c after = tt
   thread_call_passes thread_call.Exit c after = tt
@@ -190,19 +218,19 @@ module _ (p : Place) where
   caller_passes None w ws after = tt
   caller_passes (Some c) w ws after = call_passes (call_of (get c.regs 17)) c w ws after
 
-  reason_passes : (t : ℕ) (r : Reason) (after : Tables) → ArePassesAt p (orders.of_reason p t r after)
-  reason_passes t (reason.Lock m) after = mutex_passes t m after
-  reason_passes t (reason.Retake m r) after = mutex_passes t m after
-  reason_passes t (reason.Condition c m) after = mutex_passes t m after
-  reason_passes t (reason.Join u) after = if_not p (threads.is_live after.threads u) (ordered u t p ∷ []) (is_order u t p, tt)
-  reason_passes t (reason.Read a) after = read_passes t a after
-  reason_passes t (reason.Write a) after = write_passes t a after
-  reason_passes t (reason.Barrier b) after = tt
-  reason_passes t reason.Input after = tt
-  reason_passes t reason.Sleep after = tt
+  reason_passes : (t : ℕ) (w : Bool) (r : Reason) (after : Tables) → ArePassesAt p (orders.of_reason p t w r after)
+  reason_passes t w (reason.Lock m) after = mutex_passes t w m after
+  reason_passes t w (reason.Retake m r) after = mutex_passes t true m after
+  reason_passes t w (reason.Condition c m) after = mutex_passes t true m after
+  reason_passes t w (reason.Join u) after = if_not p (threads.is_live after.threads u) (ordered u t p ∷ []) (is_order u t p, tt)
+  reason_passes t w (reason.Read a) after = read_passes t true a after
+  reason_passes t w (reason.Write a) after = write_passes t true a after
+  reason_passes t w (reason.Barrier b) after = tt
+  reason_passes t w reason.Input after = tt
+  reason_passes t w reason.Sleep after = tt
 
   wait_passes : (after : Tables) (w : Wait) → ArePassesAt p (orders.of_wait p after w)
-  wait_passes after w = if_not p (orders.waits_now w.thread after) (orders.of_reason p w.thread w.reason after) (reason_passes w.thread w.reason after)
+  wait_passes after w = if_not p (orders.waits_now w.thread after) (orders.of_reason p w.thread (is_none w.deadline) w.reason after) (reason_passes w.thread (is_none w.deadline) w.reason after)
 
   acted_passes : (after : Tables) (w : Wait) → ArePassesAt p (orders.of_request p after w)
   acted_passes after w = if_not p (orders.is_retake w.reason) (orders.taken_request p w.thread after) (request_passes w.thread after)

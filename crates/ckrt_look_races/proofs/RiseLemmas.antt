@@ -42,6 +42,7 @@ abbrev pub next_of : Operation → ℕ
 next_of (operation.Access a) = moment a.place + 1
 next_of (operation.Pass from to p) = moment p
 next_of (operation.Renew b) = moment b.place
+next_of (operation.Lock l p) = moment p
 
 -- in order, from a moment on, to another
 abbrev pub Rises : (m : ℕ) → List Operation → (e : ℕ) → Type 0
@@ -66,6 +67,9 @@ passes_rise : (p : Place) (m : ℕ) (os : List Operation) → m ≤ moment p →
 passes_rise p m [] le are = omega (arith, le)
 passes_rise p m (operation.Access a ∷ os) le are = absurd are.0
 passes_rise p m (operation.Renew b ∷ os) le are = absurd are.0
+passes_rise p m (operation.Lock l q ∷ os) le are =
+    let same : moment q ≡ moment p = ap moment are.0 in
+    (tt, omega (arith, same, le), passes_rise p (moment q) os (omega (arith, same)) are.1)
 passes_rise p m (operation.Pass from to q ∷ os) le are =
     let same : moment q ≡ moment p = ap moment are.0.2 in
     ((are.0.0, are.0.1), omega (arith, same, le), passes_rise p (moment q) os (omega (arith, same)) are.1)
@@ -193,6 +197,7 @@ next_is : (o : Operation) (past : History) → next_moment (o ∷ past) ≡ next
 next_is (operation.Access a) past = refl
 next_is (operation.Pass from to p) past = refl
 next_is (operation.Renew b) past = refl
+next_is (operation.Lock l p) past = refl
 
 orderly : (past : History) (os : List Operation) (m e : ℕ) → IsOrderly HOLDERS past → next_moment past ≤ m → Rises m os e → IsOrderly HOLDERS (latest_first os past)
 orderly past [] m e is le up = is

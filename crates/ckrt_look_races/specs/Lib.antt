@@ -1,5 +1,6 @@
 pub mod Holders
 pub mod Kit
+pub mod Locking
 pub mod Accesses
 pub mod Acting
 pub mod Writers
@@ -8,5 +9,7 @@ pub mod Steps
 pub mod Texts
 pub mod Moments
 pub mod Again
+pub mod Inversions
 pub mod Recorded
 pub mod Laws
+pub mod CycleLaws

@@ -1,6 +1,6 @@
 -- Which steps put the accesses of threads in an order: those functions that synchronize memory (POSIX.1-2017, 4.12), by what became of
 -- them. A condition orders nothing of itself: its mutex does, since a wait may end without a signal (pthread_cond_wait).
-use Rattle.std.specs.Prelude.{ℕ, ◌+◌, ◌%◌, ◌^◌, ◌==◌, ◌&&◌, not, Bool, true, false, if◌then◌else◌, List, [], ◌∷◌, ◌++◌, Option, Some, None, is_some, unwrap_or}
+use Rattle.std.specs.Prelude.{ℕ, ◌+◌, ◌%◌, ◌^◌, ◌==◌, ◌&&◌, not, Bool, true, false, if◌then◌else◌, List, [], ◌∷◌, ◌++◌, Option, Some, None, is_none, is_some, unwrap_or}
 use Rattle.std.specs.List.{find, flat_map}
 use Rattle.ckrt_registers.specs.Registers.{Registers, get}
 use Rattle.ckrt_thread.specs.Cancellation.{CANCELED}
@@ -14,7 +14,7 @@ use Rattle.ckrt_thread.specs.declared.records.Thread.TheVariants as thread
 use Rattle.ckrt_thread.specs.declared.records.Wait.{Wait}
 use Rattle.ckrt_mutex.specs.Mutex.{is_owner, mutex_at}
 use Rattle.ckrt_barrier.specs.Rows.{SERIAL_THREAD}
-use Rattle.ckrt_rwlock.specs.RwLock.{is_reader, is_writer, lock_at}
+use Rattle.ckrt_rwlock.specs.RwLock.{is_holder, is_reader, is_writer, lock_at}
 use Rattle.ckrt_calls.specs.declared.table.Tables.{Tables}
 use Rattle.ckrt_calls.specs.declared.number.Call.{Call}
 use Rattle.ckrt_calls.specs.declared.number.Call.TheVariants as call
@@ -32,6 +32,7 @@ use Rattle.ckrt_calls.specs.declared.number.CancellationCall.{CancellationCall}
 use Rattle.ckrt_calls.specs.declared.number.CancellationCall.TheVariants as cancellation_call
 use Rattle.ckrt_calls.specs.Table.{call_of}
 use Rattle.ckrt_look_calls.specs.declared.lines.Caller.{Caller}
+use Rattle.ckrt_look_clocks.specs.declared.lock.LockName.TheVariants as name
 use Rattle.ckrt_look_clocks.specs.declared.operation.Place.{Place}
 use Rattle.ckrt_look_clocks.specs.declared.operation.Operation.{Operation}
 use Rattle.ckrt_look_races.specs.declared.looking.Before.{Before}
@@ -39,6 +40,7 @@ use Rattle.ckrt_look_races.specs.declared.holders.Lock.{Lock}
 use Rattle.ckrt_look_races.specs.declared.holders.Lock.TheVariants as lock
 use Rattle.ckrt_look_races.specs.Holders.{acquired, ordered, released}
 use Rattle.ckrt_look_races.specs.Kit.{unless_of_kit}
+use Rattle.ckrt_look_races.specs.Locking.{begins, gives_up_unless, made_anew, takes, taking_of}
 
 -- WHAT BECAME OF A CALL, by the tables behind it
 
@@ -58,23 +60,28 @@ waits_now t after = is_some (find (is_of t) after.threads.waits)
 abbrev pub if_answered : (v : ℕ) → Caller → Tables → List Operation → List Operation
 if_answered v c after os = if is_answered v c after then os else []
 
--- WHO HAS A LOCK behind a step has taken what was given up before, unless it is one of a kit
+-- WHO HAS A LOCK behind a step has taken what was given up before, unless it is one of a kit; its call waits as long as need be, or not
 
-abbrev pub taken_mutex : Place → (t a : ℕ) → Tables → List Operation
-taken_mutex p t a after =
-    if is_owner t (mutex_at a after.mutexes) then unless_of_kit a (acquired t (lock.Mutex a) p ∷ [])
+abbrev pub taken_mutex : Place → (t : ℕ) → (waits : Bool) → (a : ℕ) → Tables → List Operation
+taken_mutex p t w a after =
+    if is_owner t (mutex_at a after.mutexes) then
+    unless_of_kit a (acquired t (lock.Mutex a) p
+    ∷ takes t w (taking_of t (name.Mutex a) false p after) ∷ [])
     else []
 
 -- readers don't order readers: a reader takes what writers gave up, a writer what both did
-abbrev pub taken_to_read : Place → (t a : ℕ) → Tables → List Operation
-taken_to_read p t a after =
-    if is_reader t (lock_at a after.rwlocks) then unless_of_kit a (acquired t (lock.Writers a) p ∷ [])
+abbrev pub taken_to_read : Place → (t : ℕ) → (waits : Bool) → (a : ℕ) → Tables → List Operation
+taken_to_read p t w a after =
+    if is_reader t (lock_at a after.rwlocks) then
+    unless_of_kit a (acquired t (lock.Writers a) p
+    ∷ takes t w (taking_of t (name.RwLock a) true p after) ∷ [])
     else []
 
-abbrev pub taken_to_write : Place → (t a : ℕ) → Tables → List Operation
-taken_to_write p t a after =
+abbrev pub taken_to_write : Place → (t : ℕ) → (waits : Bool) → (a : ℕ) → Tables → List Operation
+taken_to_write p t w a after =
     if is_writer t (lock_at a after.rwlocks) then
-    unless_of_kit a (acquired t (lock.Writers a) p ∷ acquired t (lock.Readers a) p ∷ [])
+    unless_of_kit a (acquired t (lock.Writers a) p ∷ acquired t (lock.Readers a) p
+    ∷ takes t w (taking_of t (name.RwLock a) false p after) ∷ [])
     else []
 
 -- a thread that waited unwinds as a cancelled one, and acted on each request; or it has ended as such, or is gone: somebody joined it, or it was
@@ -119,24 +126,36 @@ second_answer (Some r) = get r 11
 abbrev pub created : Caller → Tables → ℕ
 created c after = second_answer (threads.regs_of (threads.thread_of after.threads c.thread))
 
-abbrev pub given_up_mutex : Place → (t a : ℕ) → List Operation
-given_up_mutex p t a = unless_of_kit a (released t (lock.Mutex a) p ∷ [])
+-- a recursive mutex, and what a thread reads under, it may hold still
+abbrev pub given_up_mutex : Place → (t a : ℕ) → Tables → List Operation
+given_up_mutex p t a after =
+    unless_of_kit a (released t (lock.Mutex a) p
+    ∷ gives_up_unless (is_owner t (mutex_at a after.mutexes)) p t (name.Mutex a))
 
-abbrev pub given_up_lock : Place → (t a : ℕ) → (to_write : Bool) → List Operation
-given_up_lock p t a w = unless_of_kit a (released t (given_up w a) p ∷ [])
+abbrev pub given_up_lock : Place → (t a : ℕ) → (to_write : Bool) → Tables → List Operation
+given_up_lock p t a w after =
+    unless_of_kit a (released t (given_up w a) p
+    ∷ gives_up_unless (is_holder t (lock_at a after.rwlocks)) p t (name.RwLock a))
+
+abbrev pub mutex_anew : Place → (a : ℕ) → List Operation
+mutex_anew p a = made_anew p a (name.Mutex a)
+
+abbrev pub rwlock_anew : Place → (a : ℕ) → List Operation
+rwlock_anew p a = made_anew p a (name.RwLock a)
 
 abbrev pub of_mutex_call : Place → MutexCall → Caller → Tables → List Operation
-of_mutex_call p mutex_call.Lock c after = taken_mutex p c.thread (get c.regs 10) after
-of_mutex_call p mutex_call.TryLock c after = taken_mutex p c.thread (get c.regs 10) after
-of_mutex_call p mutex_call.TimedLock c after = taken_mutex p c.thread (get c.regs 10) after
+of_mutex_call p mutex_call.Lock c after = taken_mutex p c.thread true (get c.regs 10) after
+of_mutex_call p mutex_call.TryLock c after = taken_mutex p c.thread false (get c.regs 10) after
+of_mutex_call p mutex_call.TimedLock c after = taken_mutex p c.thread false (get c.regs 10) after
 of_mutex_call p mutex_call.Unlock c after =
-    if_answered 0 c after (given_up_mutex p c.thread (get c.regs 10))
-of_mutex_call p _ c after = []
+    if_answered 0 c after (given_up_mutex p c.thread (get c.regs 10) after)
+of_mutex_call p mutex_call.Init c after = if_answered 0 c after (mutex_anew p (get c.regs 10))
+of_mutex_call p mutex_call.Destroy c after = if_answered 0 c after (mutex_anew p (get c.regs 10))
 
 -- who waits at a condition has given up its mutex
 abbrev pub begun_wait : Place → Caller → Tables → List Operation
 begun_wait p c after =
-    if waits_now c.thread after then given_up_mutex p c.thread (get c.regs 11) else []
+    if waits_now c.thread after then given_up_mutex p c.thread (get c.regs 11) after else []
 
 abbrev pub of_condition_call : Place → ConditionCall → Caller → Tables → List Operation
 of_condition_call p condition_call.Wait c after = begun_wait p c after
@@ -151,17 +170,23 @@ of_barrier_call p _ c ws after = []
 
 -- the thread had the lock to write before
 abbrev pub of_rwlock_call : Place → RwLockCall → Caller → Bool → Tables → List Operation
-of_rwlock_call p rwlock_call.RdLock c w after = taken_to_read p c.thread (get c.regs 10) after
-of_rwlock_call p rwlock_call.TryRdLock c w after = taken_to_read p c.thread (get c.regs 10) after
-of_rwlock_call p rwlock_call.WrLock c w after = taken_to_write p c.thread (get c.regs 10) after
-of_rwlock_call p rwlock_call.TryWrLock c w after = taken_to_write p c.thread (get c.regs 10) after
+of_rwlock_call p rwlock_call.RdLock c w after =
+    taken_to_read p c.thread true (get c.regs 10) after
+of_rwlock_call p rwlock_call.TryRdLock c w after =
+    taken_to_read p c.thread false (get c.regs 10) after
+of_rwlock_call p rwlock_call.WrLock c w after =
+    taken_to_write p c.thread true (get c.regs 10) after
+of_rwlock_call p rwlock_call.TryWrLock c w after =
+    taken_to_write p c.thread false (get c.regs 10) after
 of_rwlock_call p rwlock_call.Unlock c w after =
-    if_answered 0 c after (given_up_lock p c.thread (get c.regs 10) w)
-of_rwlock_call p _ c w after = []
+    if_answered 0 c after (given_up_lock p c.thread (get c.regs 10) w after)
+of_rwlock_call p rwlock_call.Init c w after = if_answered 0 c after (rwlock_anew p (get c.regs 10))
+of_rwlock_call p rwlock_call.Destroy c w after =
+    if_answered 0 c after (rwlock_anew p (get c.regs 10))
 
 abbrev pub of_thread_call : Place → ThreadCall → Caller → Tables → List Operation
 of_thread_call p thread_call.Create c after =
-    if_answered 0 c after (ordered c.thread (created c after) p ∷ [])
+    if_answered 0 c after (ordered c.thread (created c after) p ∷ begins p (created c after) ∷ [])
 of_thread_call p thread_call.Join c after =
     if_answered 0 c after (ordered (get c.regs 10) c.thread p ∷ [])
 of_thread_call p _ c after = []
@@ -187,19 +212,20 @@ of_caller p (Some c) w ws after = of_call p (call_of (get c.regs 17)) c w ws aft
 
 -- WAITS THAT ARE OVER
 
-abbrev pub of_reason : Place → (t : ℕ) → Reason → Tables → List Operation
-of_reason p t (reason.Lock m) after = taken_mutex p t m after
-of_reason p t (reason.Retake m r) after = taken_mutex p t m after
-of_reason p t (reason.Condition c m) after = taken_mutex p t m after
-of_reason p t (reason.Join u) after =
+-- who waits for a mutex may have a deadline; behind a condition it gets it without one
+abbrev pub of_reason : Place → (t : ℕ) → (waits : Bool) → Reason → Tables → List Operation
+of_reason p t w (reason.Lock m) after = taken_mutex p t w m after
+of_reason p t w (reason.Retake m r) after = taken_mutex p t true m after
+of_reason p t w (reason.Condition c m) after = taken_mutex p t true m after
+of_reason p t w (reason.Join u) after =
     if threads.is_live after.threads u then [] else ordered u t p ∷ []
-of_reason p t (reason.Read a) after = taken_to_read p t a after
-of_reason p t (reason.Write a) after = taken_to_write p t a after
-of_reason p t _ after = []
+of_reason p t w (reason.Read a) after = taken_to_read p t true a after
+of_reason p t w (reason.Write a) after = taken_to_write p t true a after
+of_reason p t w _ after = []
 
 abbrev pub of_wait : Place → Tables → Wait → List Operation
 of_wait p after w =
-    if waits_now w.thread after then [] else of_reason p w.thread w.reason after
+    if waits_now w.thread after then [] else of_reason p w.thread (is_none w.deadline) w.reason after
 
 -- the request on which a thread acts that waited; behind a condition it acted before
 abbrev pub is_retake : Reason → Bool

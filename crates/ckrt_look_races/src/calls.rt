@@ -4,17 +4,18 @@ ghost use Rattle.std.specs.List.{flat_map};
 ghost use Rattle.ckrt_registers.specs.Registers.{get};
 ghost use Rattle.ckrt_calls.specs.Table.{call_of};
 ghost use Rattle.ckrt_look_clocks.specs.Within.{noted_all};
-ghost use Rattle.ckrt_look_races.specs.Orders.{arrived, at_barrier, begun_wait, created, given_up, given_up_lock, given_up_mutex, is_answered, is_at_barrier, leaves, of_barrier_call, of_call, of_caller, of_cancellation_call, of_condition_call, of_mutex_call, of_rwlock_call, of_thread_call};
+ghost use Rattle.ckrt_look_races.specs.Orders.{arrived, at_barrier, begun_wait, created, given_up, given_up_lock, given_up_mutex, if_answered, is_answered, is_at_barrier, leaves, mutex_anew, of_barrier_call, of_call, of_caller, of_cancellation_call, of_condition_call, of_mutex_call, of_rwlock_call, of_thread_call, rwlock_anew};
 
 use crate::holders::{Lock, ordered, released};
 use crate::kit::is_of_kit;
+use crate::locking::{begins, give_up_unless, make_anew};
 use crate::orders::{take_mutex, take_to_read, take_to_write, waits_now};
 use ckrt_barrier::SERIAL_THREAD;
 use ckrt_calls::{
     BarrierCall, Call, CancellationCall, ConditionCall, MutexCall, RwLockCall, Tables, ThreadCall,
 };
 use ckrt_look_calls::Caller;
-use ckrt_look_clocks::{Detector, Place};
+use ckrt_look_clocks::{Detector, LockName, Place};
 use ckrt_thread::{Reason, ThreadId, Wait};
 
 /// Whether a call was answered so.
@@ -37,12 +38,45 @@ fn created(caller: &Caller, after: &Tables) -> u32
     }
 }
 
-/// A thread gives up a mutex, which passes nothing on if it is one of a kit.
-fn give_up_mutex(place: Place, thread: ThreadId, address: u32, detector: &mut Detector)
-    ensures { detector.new ≡ noted_all (given_up_mutex place thread address) detector.old }
+/// A thread gives up a mutex, which passes nothing on if it is one of a kit. It may hold a recursive one still.
+fn give_up_mutex(
+    place: Place,
+    thread: ThreadId,
+    address: u32,
+    after: &Tables,
+    detector: &mut Detector,
+)
+    ensures { detector.new
+        ≡ noted_all (given_up_mutex place thread address after.now) detector.old }
 {
     if !is_of_kit(address) {
+        let still = after.mutexes.mutex(address).is_owned_by(thread);
         detector.note(&released(thread, Lock::Mutex(address), place));
+        give_up_unless(still, place, thread, LockName::Mutex(address), detector);
+    }
+}
+
+/// A call that makes or destroys a mutex.
+fn make_mutex_anew(place: Place, caller: &Caller, after: &Tables, detector: &mut Detector)
+    ensures { detector.new
+        ≡ noted_all (if_answered 0 caller.now after.now
+        (mutex_anew place (get caller.now.regs 10))) detector.old }
+{
+    if is_answered(0, caller, after) {
+        let mutex = caller.regs.get(10);
+        make_anew(place, mutex, LockName::Mutex(mutex), detector);
+    }
+}
+
+/// A call that makes or destroys a read-write lock.
+fn make_rwlock_anew(place: Place, caller: &Caller, after: &Tables, detector: &mut Detector)
+    ensures { detector.new
+        ≡ noted_all (if_answered 0 caller.now after.now
+        (rwlock_anew place (get caller.now.regs 10))) detector.old }
+{
+    if is_answered(0, caller, after) {
+        let lock = caller.regs.get(10);
+        make_anew(place, lock, LockName::RwLock(lock), detector);
     }
 }
 
@@ -59,15 +93,16 @@ fn watch_mutex_call(
 {
     let mutex = caller.regs.get(10);
     match call {
-        MutexCall::Lock | MutexCall::TryLock | MutexCall::TimedLock => {
-            take_mutex(place, caller.thread, mutex, after, detector);
+        MutexCall::Lock => take_mutex(place, caller.thread, true, mutex, after, detector),
+        MutexCall::TryLock | MutexCall::TimedLock => {
+            take_mutex(place, caller.thread, false, mutex, after, detector);
         }
         MutexCall::Unlock => {
             if is_answered(0, caller, after) {
-                give_up_mutex(place, caller.thread, mutex, detector);
+                give_up_mutex(place, caller.thread, mutex, after, detector);
             }
         }
-        MutexCall::Init | MutexCall::Destroy => {}
+        MutexCall::Init | MutexCall::Destroy => make_mutex_anew(place, caller, after, detector),
     }
 }
 
@@ -76,7 +111,7 @@ fn begin_wait(place: Place, caller: &Caller, after: &Tables, detector: &mut Dete
     ensures { detector.new ≡ noted_all (begun_wait place caller.now after.now) detector.old }
 {
     if waits_now(caller.thread, after) {
-        give_up_mutex(place, caller.thread, caller.regs.get(11), detector);
+        give_up_mutex(place, caller.thread, caller.regs.get(11), after, detector);
     }
 }
 
@@ -219,13 +254,16 @@ fn give_up_lock(
     thread: ThreadId,
     address: u32,
     is_writer: bool,
+    after: &Tables,
     detector: &mut Detector,
 )
     ensures { detector.new
-        ≡ noted_all (given_up_lock place thread address is_writer) detector.old }
+        ≡ noted_all (given_up_lock place thread address is_writer after.now) detector.old }
 {
     if !is_of_kit(address) {
+        let still = after.rwlocks.lock(address).is_holder(thread);
         detector.note(&released(thread, given_up(is_writer, address), place));
+        give_up_unless(still, place, thread, LockName::RwLock(address), detector);
     }
 }
 
@@ -243,18 +281,16 @@ fn watch_rwlock_call(
 {
     let lock = caller.regs.get(10);
     match call {
-        RwLockCall::RdLock | RwLockCall::TryRdLock => {
-            take_to_read(place, caller.thread, lock, after, detector);
-        }
-        RwLockCall::WrLock | RwLockCall::TryWrLock => {
-            take_to_write(place, caller.thread, lock, after, detector);
-        }
+        RwLockCall::RdLock => take_to_read(place, caller.thread, true, lock, after, detector),
+        RwLockCall::TryRdLock => take_to_read(place, caller.thread, false, lock, after, detector),
+        RwLockCall::WrLock => take_to_write(place, caller.thread, true, lock, after, detector),
+        RwLockCall::TryWrLock => take_to_write(place, caller.thread, false, lock, after, detector),
         RwLockCall::Unlock => {
             if is_answered(0, caller, after) {
-                give_up_lock(place, caller.thread, lock, is_writer, detector);
+                give_up_lock(place, caller.thread, lock, is_writer, after, detector);
             }
         }
-        RwLockCall::Init | RwLockCall::Destroy => {}
+        RwLockCall::Init | RwLockCall::Destroy => make_rwlock_anew(place, caller, after, detector),
     }
 }
 
@@ -274,7 +310,11 @@ fn watch_thread_call(
     }
     let thread = u32::from(caller.thread);
     match call {
-        ThreadCall::Create => detector.note(&ordered(thread, created(caller, after), place)),
+        ThreadCall::Create => {
+            let other = created(caller, after);
+            detector.note(&ordered(thread, other, place));
+            detector.note(&begins(place, other));
+        }
         ThreadCall::Join => detector.note(&ordered(caller.regs.get(10), thread, place)),
         ThreadCall::Detach | ThreadCall::Exit | ThreadCall::SelfId => {}
     }

@@ -9,10 +9,13 @@ mod accesses;
 mod again;
 mod callers;
 mod calls;
+mod cycles_again;
 mod held;
 mod holders;
+mod inversions;
 mod kit;
 mod laws;
+mod locking;
 mod looking;
 mod moment;
 mod orders;
@@ -22,7 +25,10 @@ mod texts;
 mod walk;
 
 pub use holders::Lock;
-pub use laws::{found_is_of_the_history, histories_are_orderly, only_races_are_told};
+pub use inversions::write_cycle;
+pub use laws::{
+    found_is_of_the_history, histories_are_orderly, only_cycles_are_told, only_races_are_told,
+};
 pub use recorded::{ROOM, detector_for, write_races};
 pub use texts::write_both;
 pub use walk::watch_event;

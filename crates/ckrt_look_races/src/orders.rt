@@ -8,8 +8,9 @@ ghost use Rattle.ckrt_look_races.specs.Orders.{is_cancelled, is_retake, of_actin
 
 use crate::holders::{Lock, acquired, ordered};
 use crate::kit::is_of_kit;
+use crate::locking::{takes, taking_of};
 use ckrt_calls::Tables;
-use ckrt_look_clocks::{Detector, Place};
+use ckrt_look_clocks::{Detector, LockName, Place};
 use ckrt_thread::{CANCELED, Reason, Thread, ThreadId, Threads, Wait};
 
 /// Whether a thread waits.
@@ -19,52 +20,61 @@ pub(crate) fn waits_now(thread: ThreadId, after: &Tables) -> bool
     after.threads.wait_of(thread).is_some()
 }
 
-/// A thread that owns a mutex has taken it, unless it is one of a kit.
+/// A thread that owns a mutex has taken it, unless it is one of a kit. Its call waits as long as need be, or not.
 pub(crate) fn take_mutex(
     place: Place,
     thread: ThreadId,
+    waits: bool,
     address: u32,
     after: &Tables,
     detector: &mut Detector,
 )
     ensures { detector.new
-        ≡ noted_all (taken_mutex place thread address after.now) detector.old }
+        ≡ noted_all (taken_mutex place thread waits address after.now) detector.old }
 {
     if after.mutexes.mutex(address).is_owned_by(thread) && !is_of_kit(address) {
+        let taking = taking_of(thread, LockName::Mutex(address), false, place, after);
         detector.note(&acquired(thread, Lock::Mutex(address), place));
+        detector.note(&takes(thread, waits, taking));
     }
 }
 
-/// A thread that reads under a read-write lock has taken what writers gave up, unless it is one of a kit.
+/// The same of one that reads under a read-write lock: it has taken what writers gave up.
 pub(crate) fn take_to_read(
     place: Place,
     thread: ThreadId,
+    waits: bool,
     address: u32,
     after: &Tables,
     detector: &mut Detector,
 )
     ensures { detector.new
-        ≡ noted_all (taken_to_read place thread address after.now) detector.old }
+        ≡ noted_all (taken_to_read place thread waits address after.now) detector.old }
 {
     if after.rwlocks.lock(address).is_reader(thread) && !is_of_kit(address) {
+        let taking = taking_of(thread, LockName::RwLock(address), true, place, after);
         detector.note(&acquired(thread, Lock::Writers(address), place));
+        detector.note(&takes(thread, waits, taking));
     }
 }
 
-/// A thread that writes under a read-write lock has taken what writers and readers gave up, unless it is one of a kit.
+/// The same of one that writes under a read-write lock: it has taken what writers and readers gave up.
 pub(crate) fn take_to_write(
     place: Place,
     thread: ThreadId,
+    waits: bool,
     address: u32,
     after: &Tables,
     detector: &mut Detector,
 )
     ensures { detector.new
-        ≡ noted_all (taken_to_write place thread address after.now) detector.old }
+        ≡ noted_all (taken_to_write place thread waits address after.now) detector.old }
 {
     if after.rwlocks.lock(address).is_writer(thread) && !is_of_kit(address) {
+        let taking = taking_of(thread, LockName::RwLock(address), false, place, after);
         detector.note(&acquired(thread, Lock::Writers(address), place));
         detector.note(&acquired(thread, Lock::Readers(address), place));
+        detector.note(&takes(thread, waits, taking));
     }
 }
 
@@ -100,28 +110,29 @@ fn is_live(threads: &Threads, thread: ThreadId) -> bool
     matches!(threads.thread(u32::from(thread)), Some(Thread::Live(_)))
 }
 
-/// What a thread has by now that waited for it.
+/// What a thread has by now that waited for it, without a deadline or with one.
 fn watch_reason(
     place: Place,
     thread: ThreadId,
+    waits: bool,
     reason: Reason,
     after: &Tables,
     detector: &mut Detector,
 )
     ensures { detector.new
-        ≡ noted_all (of_reason place thread reason after.now) detector.old }
+        ≡ noted_all (of_reason place thread waits reason after.now) detector.old }
 {
     match reason {
-        Reason::Lock(mutex) => take_mutex(place, thread, mutex, after, detector),
-        Reason::Retake(mutex, _) => take_mutex(place, thread, mutex, after, detector),
-        Reason::Condition(_, mutex) => take_mutex(place, thread, mutex, after, detector),
+        Reason::Lock(mutex) => take_mutex(place, thread, waits, mutex, after, detector),
+        Reason::Retake(mutex, _) => take_mutex(place, thread, true, mutex, after, detector),
+        Reason::Condition(_, mutex) => take_mutex(place, thread, true, mutex, after, detector),
         Reason::Join(other) => {
             if !is_live(&after.threads, other) {
                 detector.note(&ordered(u32::from(other), u32::from(thread), place));
             }
         }
-        Reason::Read(lock) => take_to_read(place, thread, lock, after, detector),
-        Reason::Write(lock) => take_to_write(place, thread, lock, after, detector),
+        Reason::Read(lock) => take_to_read(place, thread, true, lock, after, detector),
+        Reason::Write(lock) => take_to_write(place, thread, true, lock, after, detector),
         Reason::Barrier(_) | Reason::Input | Reason::Sleep => {}
     }
 }
@@ -133,7 +144,8 @@ fn watch_wait(place: Place, after: &Tables, wait: &Wait, detector: &mut Detector
     if waits_now(wait.thread, after) {
         return;
     }
-    watch_reason(place, wait.thread, wait.reason, after, detector);
+    let waits = wait.deadline.is_none();
+    watch_reason(place, wait.thread, waits, wait.reason, after, detector);
 }
 
 /// Whether a thread waits for its mutex behind a condition.

@@ -1,5 +1,5 @@
 //! The races of events.
-ghost use Rattle.std.specs.Prelude.{◌≡◌, ◌⊎◌, ◌<◌, ◌+◌, ◌^◌, false, IfErr, IfOk, OnOk, length};
+ghost use Rattle.std.specs.Prelude.{◌≡◌, ◌⊎◌, ◌<◌, ◌+◌, ◌++◌, ◌^◌, false, IfErr, IfOk, OnOk, length};
 ghost use Rattle.std.specs.Io.KnownBytes.{Appends};
 ghost use Rattle.ckrt_machine.specs.Events.{AllAccepted};
 ghost use Rattle.ckrt_inspect.specs.declared.fault.InspectFault.TheVariants.{OutOfMemory, Write as Writing};
@@ -7,11 +7,13 @@ ghost use Rattle.ckrt_look_calls.specs.Stretches.{IsEventsFault};
 ghost use Rattle.ckrt_look_clocks.specs.Within.{noted_all, fresh_within, is_full};
 ghost use Rattle.ckrt_look_races.specs.Holders as holders;
 ghost use Rattle.ckrt_look_races.specs.Again.{IsSound, race_text, replay_of};
+ghost use Rattle.ckrt_look_races.specs.Inversions.{inversion_text, orders_text};
 ghost use Rattle.ckrt_look_races.specs.Recorded.{races_text, slots_in, words_of};
 ghost use Rattle.ckrt_look_races.specs.Steps.{of_events};
 ghost use Rattle.ckrt_look_races.specs.Texts.{found_text};
 
 use crate::again::write_races_again;
+use crate::cycles_again::write_orders;
 use crate::holders::HOLDERS;
 use crate::replay::{Source, copy_of};
 use crate::texts::{write_none, write_others_line};
@@ -81,7 +83,7 @@ fn slots_in(room: u64, words: usize) -> usize
     }
 }
 
-/// A detector for what a machine does from here on: what was done before is taken as ordered. It takes 14 MB, and a room of so many
+/// A detector for what a machine does from here on: what was done before is taken as ordered. It takes 16 MB, and a room of so many
 /// bytes, or of as many as a shadow of all the guest's memory takes where these are fewer.
 pub fn detector_for(alloc: Global, machine: &Machine, room: u64) -> Result<Detector, AllocError>
     ensures { IfOk result (λ detector. detector
@@ -122,10 +124,32 @@ fn write_found<W: Write>(
     }
 }
 
+/// Writes what was found by events, races first.
+#[tactic(auto, using(ckrt_look_calls::proofs::AppendLemmas::appends_both))]
+fn write_all_found<W: Write>(
+    alloc: Global,
+    source: &Source<'_>,
+    detector: &Detector,
+    out: &mut W,
+) -> Result<(), InspectFault>
+    requires few { source.now.count + length source.now.events.now < 2 ^ 64 }
+    requires sound { IsSound (replay_of source.now) }
+    ensures found { OnOk result (Appends (W.contents out.old) (W.contents out.new)
+        (found_text (race_text (replay_of source.now)) source.now.count
+        (source.now.count + length source.now.events.now) detector.now.watched.found
+        ++ orders_text (inversion_text (replay_of source.now)) source.now.count
+        (source.now.count + length source.now.events.now) detector.now.watched.orders)) }
+    ensures fault { IfErr result (λ e. (e ≡ OutOfMemory) ⊎ (e ≡ Writing)) }
+{
+    write_found(alloc, source, detector, out)?;
+    write_orders(alloc, source, detector, out)
+}
+
 /// Makes events, each of which is to be accepted at its turn, and writes their races: each pair of places in them once, with the first two
 /// accesses there that race, and how often, or where there were none. Beneath each stand the locks and the callers of both threads at
-/// their accesses, found by the rules, and the memory that was given anew last which has the word of both. The first event is behind
-/// `count` others, and what was done before it is taken as ordered. It takes 14 MB, three bytes for each of the guest's memory, and a
+/// their accesses, found by the rules, and the memory that was given anew last which has the word of both. Behind them stand the cycles
+/// of orders in which threads took locks, each with what they held and their callers, or where there were none. The first event is behind
+/// `count` others, and what was done before it is taken as ordered. It takes 16 MB, three bytes for each of the guest's memory, and a
 /// room of [`ROOM`] bytes at most, or of 70 for each of the guest's memory where these are fewer. Where it looks at a race again it takes
 /// twelve more for each.
 ///
@@ -161,5 +185,5 @@ pub fn write_races<W: Write>(
         events,
         start: &start,
     };
-    write_found(alloc, &source, &detector, out)
+    write_all_found(alloc, &source, &detector, out)
 }

@@ -54,7 +54,7 @@ fn write_access<W: Write>(out: &mut W, access: &Access) -> Result<()>
 
 /// How often.
 #[tactic(auto, using(ckrt_look_calls::proofs::AppendLemmas::appends_both))]
-fn write_times<W: Write>(out: &mut W, times: u64) -> Result<()>
+pub(crate) fn write_times<W: Write>(out: &mut W, times: u64) -> Result<()>
     ensures { OnOk result
         (Appends (W.contents out.old) (W.contents out.new) (times_text times)) }
 {

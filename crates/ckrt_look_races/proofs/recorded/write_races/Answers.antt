@@ -1,4 +1,4 @@
-use Rattle.std.proofs.Common.{◌≡◌, ◌+◌, ◌∙◌, ap, length, subst, sym}
+use Rattle.std.proofs.Common.{◌≡◌, ◌+◌, ◌++◌, ◌∙◌, ap, length, subst, sym}
 use Rattle.std.proofs.lemmas.Result.{on_ok_weaker}
 use Rattle.std.specs.Io.KnownBytes.{Appends}
 use Rattle.ckrt_machine.specs.Steps.{State}
@@ -7,7 +7,8 @@ use Rattle.ckrt_look_clocks.specs.Within.{Detected, noted_all, fresh_within, is_
 use Rattle.ckrt_look_clocks.proofs.WithinLemmas.{nothing_left_out}
 use Rattle.ckrt_look_races.specs.Again.{race_text}
 use Rattle.ckrt_look_races.specs.Holders.{HOLDERS}
-use Rattle.ckrt_look_races.specs.Recorded.{found_by, replay, slots_in, words_of}
+use Rattle.ckrt_look_races.specs.Inversions.{inversion_text, orders_text}
+use Rattle.ckrt_look_races.specs.Recorded.{found_by, orders_by, replay, slots_in, words_of}
 use Rattle.ckrt_look_races.specs.declared.recorded.TheConstants.{ROOM}
 use Rattle.ckrt_look_races.specs.Steps.{of_events}
 use Rattle.ckrt_look_races.specs.Texts.{found_text}
@@ -25,7 +26,8 @@ returns-clause-races g c =
     ap (λ (d : Detected). d.watched) noted ∙ nothing_left_out HOLDERS (words_of s) slots os (sym (ap is_full noted) ∙ c.in_ok-watch_events.ensures.left) in
     let start = c.in-Ok-copy_of.start in
     let copied : start.state ≡ s = c.in-Ok-copy_of.ensures in
-    let a = g.W.Write.contents c.args.out.now in let z = g.W.Write.contents c.write_found.new.out in
-    on_ok_weaker c.write_found.result (λ written.
-    subst (λ (t : State). Appends a z (found_text (race_text (replay by k es t)) k (k + length es) (found_by k es s))) copied
-    (subst (λ (w : Watched). Appends a z (found_text (race_text (replay by k es start.state)) k (k + length es) w.found)) all written)) c.write_found.ensures.found
+    let end = k + length es in
+    let a = g.W.Write.contents c.args.out.now in let z = g.W.Write.contents c.write_all_found.new.out in
+    on_ok_weaker c.write_all_found.result (λ written.
+    subst (λ (t : State). Appends a z (found_text (race_text (replay by k es t)) k end (found_by k es s) ++ orders_text (inversion_text (replay by k es t)) k end (orders_by k es s))) copied
+    (subst (λ (w : Watched). Appends a z (found_text (race_text (replay by k es start.state)) k end w.found ++ orders_text (inversion_text (replay by k es start.state)) k end w.orders)) all written)) c.write_all_found.ensures.found

@@ -7,13 +7,13 @@ use Rattle.ckrt_look_clocks.proofs.parts.Shadow.access.Goals.{then-self-via-then
 use Rattle.ckrt_look_clocks.proofs.parts.Shadow.access.Goals as goal
 
 pub returns-then-self : goal.returns-then-self
-returns-then-self c =
+returns-then-self c = λ orders.
     let r = c.self.inside in let a = c.args.access.now in let s = c.args.self.now in
     let size : length s.cells ≡ r.words = sym (ap (λ (v : Shadowed). length v.cells) c.self.view_is) ∙ cells_size r.by_part.items r.cells.items r.words in
     elim c.then-self.branch [
-      | then-self-via-then-self w ↦ access_full c.args.clocks.now a s (found_in c.args.found.now) (sym (ap (λ (v : Shadowed). v.slots.is_full) c.self.view_is) ∙ w.if-self.true)
+      | then-self-via-then-self w ↦ access_full c.args.clocks.now a s (found_in c.args.found.now) orders (sym (ap (λ (v : Shadowed). v.slots.is_full) c.self.view_is) ∙ w.if-self.true)
       | then-self-via-else-self+then-word-self w ↦
-          access_beyond c.args.clocks.now a s (found_in c.args.found.now) (sym (ap (λ (v : Shadowed). v.slots.is_full) c.self.view_is) ∙ w.if-self.false) (omega (arith, w.if-word-self.true, size))
+          access_beyond c.args.clocks.now a s (found_in c.args.found.now) orders (sym (ap (λ (v : Shadowed). v.slots.is_full) c.self.view_is) ∙ w.if-self.false) (omega (arith, w.if-word-self.true, size))
     ]
 
 pub note-requires-clause-inside : goal.note-requires-clause-inside
@@ -23,10 +23,10 @@ note-requires-clause-inside c =
     omega (arith, c.if-word-self.false, size, ap length c.touch.ensures.cells)
 
 pub returns-then-not-self : goal.returns-then-not-self
-returns-then-not-self c =
+returns-then-not-self c = λ orders.
     let r = c.self.inside in let a = c.args.access.now in let s = c.args.self.now in let t = c.touch.new.self in
     let size : length s.cells ≡ r.words = sym (ap (λ (v : Shadowed). length v.cells) c.self.view_is) ∙ cells_size r.by_part.items r.cells.items r.words in
-    access_noted c.args.clocks.now a s (found_in c.args.found.now) t c.note.new.self (found_in c.note.new.found)
+    access_noted c.args.clocks.now a s (found_in c.args.found.now) orders t c.note.new.self (found_in c.note.new.found)
     (sym (ap (λ (v : Shadowed). v.slots.is_full) c.self.view_is) ∙ c.if-self.false)
     (let h : word_of a < length s.cells = omega (arith, c.if-word-self.false, size) in h)
     c.touch.ensures.slots c.touch.ensures.cells
@@ -34,10 +34,10 @@ returns-then-not-self c =
     c.note.ensures.slots c.note.ensures.cells c.note.ensures.found
 
 pub returns-else-not-self : goal.returns-else-not-self
-returns-else-not-self c =
+returns-else-not-self c = λ orders.
     let r = c.self.inside in let a = c.args.access.now in let s = c.args.self.now in let t = c.touch.new.self in
     let size : length s.cells ≡ r.words = sym (ap (λ (v : Shadowed). length v.cells) c.self.view_is) ∙ cells_size r.by_part.items r.cells.items r.words in
-    access_used_up c.args.clocks.now a s (found_in c.args.found.now) t
+    access_used_up c.args.clocks.now a s (found_in c.args.found.now) orders t
     (sym (ap (λ (v : Shadowed). v.slots.is_full) c.self.view_is) ∙ c.if-self.false)
     (let h : word_of a < length s.cells = omega (arith, c.if-word-self.false, size) in h)
     c.touch.ensures.slots c.touch.ensures.cells
