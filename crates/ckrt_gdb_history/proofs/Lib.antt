@@ -11,6 +11,9 @@ pub mod SeenLemmas
 pub mod PassLemmas
 pub mod CalmLemmas
 pub mod SnapshotLemmas
+pub mod KeptLemmas
 pub mod PageLemmas
+pub mod CopyLemmas
+pub mod PoolLemmas
 pub mod ForkLemmas
 pub mod ExtendLemmas

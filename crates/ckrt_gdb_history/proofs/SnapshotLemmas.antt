@@ -1,20 +1,16 @@
 -- States that are kept on the way through the events.
-use Rattle.std.proofs.Common.{◌≡◌, ℕ, zero, suc, ◌+◌, ◌<◌, List, [], ◌∷◌, ◌++◌, take, drop, length, Some, slice_get, slice_set, refl, sym, ap, ◌∙◌, subst, arith, add-one, ◌≤◌}
+use Rattle.std.proofs.Common.{◌≡◌, ℕ, zero, suc, ◌+◌, ◌<◌, List, [], ◌∷◌, take, drop, length, Some, slice_get, slice_set, refl, sym, ap, ◌∙◌, subst, arith, add-one, ◌≤◌}
 use Rattle.ckrt_events.specs.declared.event.Event.{Event}
 use Rattle.ckrt_calls.specs.WellFormed.{IsWellFormed}
 use Rattle.ckrt_machine.specs.Steps.{State}
 use Rattle.ckrt_machine.specs.Events.{AllAccepted, Machine, step}
 use Rattle.ckrt_machine.proofs.Fixed.{same_harts_after}
-use Rattle.ckrt_gdb_history.specs.declared.kept.Snapshot.{Snapshot}
+use Rattle.ckrt_gdb_history.specs.Pool.{Snapshot}
 use Rattle.ckrt_gdb_history.specs.declared.position.Position.{Position}
 use Rattle.ckrt_gdb_history.specs.Positions.{IsPosition, at_event, state_at, state_before}
-use Rattle.ckrt_gdb_history.specs.Engine.{AreSnapshots, CanBeKept, IsAt, IsBeforeEvent, IsSnapshot, kept_state}
+use Rattle.ckrt_gdb_history.specs.Engine.{AreSnapshots, CanBeKept, IsAt, IsBeforeEvent, IsSnapshot}
 use Rattle.ckrt_gdb_history.proofs.AtLemmas.{harts_at, one_of, rests}
 use Rattle.ckrt_gdb_history.proofs.PlaceLemmas.{state_next}
-
-pub kept_more : (ks : List Snapshot) (k : Snapshot) (es : List Event) (s : State) → AreSnapshots ks es s → IsSnapshot k es s → AreSnapshots (ks ++ k ∷ []) es s
-kept_more [] k es s are is = (is, tt)
-kept_more (x ∷ ks) k es s are is = (are.0, kept_more ks k es s are.1 is)
 
 pub kept_in : (ks : List Snapshot) (i : ℕ) (k : Snapshot) (es : List Event) (s : State) → AreSnapshots ks es s → slice_get ks i ≡ Some k → IsSnapshot k es s
 kept_in [] i k es s are is = absurd (cc)
@@ -26,9 +22,19 @@ kept_set [] i k es s are is = tt
 kept_set (x ∷ ks) zero k es s are is = (is, are.1)
 kept_set (x ∷ ks) (suc i) k es s are is = (are.0, kept_set ks i k es s are.1 is)
 
+-- there is one in each place
+pub record IsOne (ks : List Snapshot) (i : ℕ) : Type 0 where
+  pub snapshot : Snapshot
+  pub is : slice_get ks i ≡ Some snapshot
+
+pub one_at : (ks : List Snapshot) (i : ℕ) → i < length ks → IsOne ks i
+one_at [] i less = absurd (omega (arith, less))
+one_at (x ∷ ks) zero less = record { snapshot = x; is = refl }
+one_at (x ∷ ks) (suc i) less = (let there = one_at ks i (omega (arith, less)) in record { snapshot = there.snapshot; is = there.is })
+
 -- BEFORE AN EVENT
 
-pub snapshot_of : (k : Snapshot) (n : ℕ) (m : Machine) (es : List Event) (s : State) → k.position ≡ at_event n → kept_state k.kept ≡ m.state → IsBeforeEvent n m es s → IsWellFormed m.state.tables → IsSnapshot k es s
+pub snapshot_of : (k : Snapshot) (n : ℕ) (m : Machine) (es : List Event) (s : State) → k.position ≡ at_event n → k.state ≡ m.state → IsBeforeEvent n m es s → IsWellFormed m.state.tables → IsSnapshot k es s
 snapshot_of k n m es s position same before well =
     let events = ap (λ (p : Position). p.events) position in
     let steps = ap (λ (p : Position). p.steps) position in
@@ -44,14 +50,9 @@ snapshot_of k n m es s position same before well =
       };
     }
 
--- of the beginning
-pub snapshot_first : (k : Snapshot) (m : Machine) (es : List Event) → k.position ≡ at_event 0 → kept_state k.kept ≡ m.state → IsWellFormed m.state.tables → IsSnapshot k es m.state
-snapshot_first k m es position same well =
-    snapshot_of k 0 m es m.state position same (record { events = omega arith; state = refl; size = refl }) well
-
 -- AT A POSITION
 
-pub snapshot_at : (k : Snapshot) (p : Position) (m : Machine) (es : List Event) (s : State) → k.position ≡ p → kept_state k.kept ≡ m.state → CanBeKept m p es s → IsWellFormed m.state.tables → IsSnapshot k es s
+pub snapshot_at : (k : Snapshot) (p : Position) (m : Machine) (es : List Event) (s : State) → k.position ≡ p → k.state ≡ m.state → CanBeKept m p es s → IsWellFormed m.state.tables → IsSnapshot k es s
 snapshot_at k p m es s position same can well =
     let steps = ap (λ (q : Position). q.steps) position in
     let at = can.at in
@@ -68,7 +69,7 @@ snapshot_at k p m es s position same can well =
     }
 
 -- a machine that becomes what is kept is there
-pub at_snapshot : (k : Snapshot) (m : Machine) (es : List Event) (s : State) → AllAccepted es s → IsSnapshot k es s → m.state ≡ kept_state k.kept → m.output ≡ [] → IsAt m k.position es s
+pub at_snapshot : (k : Snapshot) (m : Machine) (es : List Event) (s : State) → AllAccepted es s → IsSnapshot k es s → m.state ≡ k.state → m.output ≡ [] → IsAt m k.position es s
 at_snapshot k m es s all is state none = record {
   accepted = all;
   position = one_of k.position es s all is.events is.within;

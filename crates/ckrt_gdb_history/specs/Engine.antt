@@ -5,12 +5,11 @@ use Rattle.ckrt_calls.specs.WellFormed.{IsWellFormed}
 use Rattle.ckrt_machine.specs.Steps.{State}
 use Rattle.ckrt_machine.specs.Events.{AllAccepted, IsAccepted, Machine, step}
 use Rattle.ckrt_gdb_history.specs.declared.position.Position.{Position}
-use Rattle.ckrt_gdb_history.specs.declared.kept.Kept.{Kept}
 use Rattle.ckrt_gdb_history.specs.declared.kept.Spare.{Spare}
 use Rattle.ckrt_gdb_history.specs.declared.room.Room.{Room}
 use Rattle.ckrt_gdb_history.specs.declared.room.TheConstants.{MORE_EVENTS}
-use Rattle.ckrt_gdb_history.specs.declared.kept.Snapshot.{Snapshot}
-use Rattle.ckrt_gdb_history.specs.Positions.{History, IsPosition, into_run, run_in, state_at, state_before, steps_of}
+use Rattle.ckrt_gdb_history.specs.Positions.{History, IsPosition, at_event, into_run, run_in, state_at, state_before, steps_of}
+use Rattle.ckrt_gdb_history.specs.Pool.{Snapshot, Snapshots}
 
 -- in how many steps each of the events is done
 abbrev pub steps_through : List Event → State → List ℕ
@@ -33,11 +32,7 @@ pub record IsAt (m : Machine) (p : Position) (es : List Event) (s : State) : Typ
   -- what the run under way has put counts until it is over
   pub output : 0 < p.steps → m.output ≡ (state_at p es s).output
 
--- the state that is kept
-abbrev pub kept_state : Kept → State
-kept_state k = record { bytes = k.bytes.items; tables = k.tables }
-
--- that in the spare room for one
+-- the state in the spare room for one
 abbrev pub spare_state : Spare → State
 spare_state r = record { bytes = r.memory.bytes; tables = r.tables }
 
@@ -66,20 +61,30 @@ pub record CanBeKept (m : Machine) (p : Position) (es : List Event) (s : State) 
 pub record IsSnapshot (k : Snapshot) (es : List Event) (s : State) : Type 0 where
   pub events : k.position.events ≤ length es
   pub within : 0 < k.position.steps → IsPosition k.position es s
-  pub state : kept_state k.kept ≡ (state_at k.position es s).state
+  pub state : k.state ≡ (state_at k.position es s).state
   pub silent : 0 < k.position.steps → (state_at k.position es s).output ≡ []
-  pub well_formed : IsWellFormed k.kept.tables
-  pub alike : IsAlike (kept_state k.kept) s
+  pub well_formed : IsWellFormed k.state.tables
+  pub alike : IsAlike k.state s
 
 abbrev pub AreSnapshots : List Snapshot → List Event → State → Type 0
 AreSnapshots [] es s = Unit {0}
 AreSnapshots (k ∷ ks) es s = IsSnapshot k es s × AreSnapshots ks es s
 
+-- the state of the beginning, at the first position
+abbrev pub beginning_of : State → Snapshot
+beginning_of s = record { position = at_event 0; state = s }
+
+-- states may have been forgotten: what is kept is still of the same history
+pub record StayKept (old new : Snapshots) : Type 0 where
+  pub start : new.start ≡ old.start
+  pub count : length new.kept ≡ length old.kept
+  pub kept : (es : List Event) → AreSnapshots old.kept es old.start → AreSnapshots new.kept es old.start
+
 -- room for a history of so many events from a state on, and of some more, which have that many places: the state is kept, and stands at
 -- each place for another
 pub record IsRoomFor (count places : ℕ) (s : State) (room : Room) : Type 0 where
-  pub start : kept_state room.start ≡ s
-  pub kept : (es : List Event) → AreSnapshots room.snapshots.items es s
+  pub start : room.snapshots.start ≡ s
+  pub kept : (es : List Event) → AreSnapshots room.snapshots.kept es s
   pub spare : IsAlike (spare_state room.spare) s
   pub steps : room.steps.items ≡ []
   pub enough : vec_capacity room.steps ≡ count + MORE_EVENTS

@@ -1,4 +1,5 @@
 pub mod Positions
+pub mod Pool
 pub mod Engine
 pub mod Stops
 pub mod Search

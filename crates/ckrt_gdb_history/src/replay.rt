@@ -8,7 +8,7 @@ ghost use Rattle.ckrt_gdb_history.specs.Engine.{AreSnapshots, IsInto, steps_thro
 ghost use Rattle.ckrt_gdb_history.specs.Search.{meets_in};
 
 use crate::fault::HistoryFault;
-use crate::kept::{Snapshot, keep_at};
+use crate::kept::Snapshots;
 use ckrt_events::Event;
 use ckrt_machine::{Answer, Machine};
 use ckrt_memory::StopReason;
@@ -143,10 +143,11 @@ pub fn replay_all(
     events: &[Event],
     every: usize,
     steps: &mut Vec<u32>,
-    snapshots: &mut Vec<Snapshot>,
+    snapshots: &mut Snapshots,
 ) -> Result<(), HistoryFault>
     requires steps { steps.old.items ≡ [] }
-    requires snapshots { AreSnapshots snapshots.old.items events.now machine.old.state }
+    requires start { snapshots.old.start ≡ machine.old.state }
+    requires snapshots { AreSnapshots snapshots.old.kept events.now machine.old.state }
     requires every { 0 < every }
     requires room { length events.now ≤ vec_capacity steps.old }
     ensures accepted { IfOk result (λ _. AllAccepted events.now machine.old.state) }
@@ -154,14 +155,15 @@ pub fn replay_all(
         machine.new.state ≡ (fold events.now machine.old.state).state) }
     ensures steps { IfOk result (λ _.
         steps.new.items ≡ steps_through events.now machine.old.state) }
+    ensures start { snapshots.new.start ≡ snapshots.old.start }
     ensures kept { IfOk result (λ _.
-        AreSnapshots snapshots.new.items events.now machine.old.state) }
+        AreSnapshots snapshots.new.kept events.now machine.old.state) }
     ensures room { vec_capacity steps.new ≡ vec_capacity steps.old }
     ensures size { length machine.new.state.bytes ≡ length machine.old.state.bytes }
     ensures refused { IfErr result (λ _. AllAccepted events.now machine.old.state → ⊥) }
 {
     for event in events {
-        keep_at(machine, steps.len(), every, snapshots);
+        snapshots.keep_at(machine, steps.len(), every);
         replay_one(machine, event, steps)?;
     }
     Ok(())

@@ -8,10 +8,11 @@ use Rattle.ckrt_gdb_stub.specs.declared.fault.DebugFault.{DebugFault}
 use Rattle.ckrt_gdb_stub.specs.declared.fault.DebugFault.TheVariants.{OutOfMemory, Refused}
 use Rattle.ckrt_gdb_stub.specs.declared.stub.Stub.{Stub}
 use Rattle.ckrt_gdb_playback.specs.Look.{fitting}
+use Rattle.ckrt_gdb_history.specs.declared.position.Position.{Position}
 use Rattle.ckrt_gdb_history.specs.Positions.{History}
 use Rattle.ckrt_gdb_playback.specs.Playback.{HasPlace, history_of, position_of}
 use Rattle.ckrt_gdb_playback.specs.Requests.{last_text}
-use Rattle.ckrt_gdb_stub.specs.Session.{AnswersBy, HasGone, HasMoved, IsOfRun, IsOutside, IsReplayed, IsSame, Reaches}
+use Rattle.ckrt_gdb_stub.specs.Session.{AnswersBy, HasBounds, HasGone, HasMoved, IsOfRun, IsOutside, IsReplayed, IsSame, Names, Reaches}
 use Rattle.ckrt_gdb_playback.proofs.MotionLemmas.{is_run, moved_run}
 
 pub same : (s : Stub) → IsSame s s
@@ -70,3 +71,16 @@ reaches true events steps old new has there nowhere = (has.0 refl, there refl)
 reaches false events steps old new has there nowhere =
     let is = nowhere refl in
     ((λ place. absurd (let yes : false ≡ true = has.1 place in cc)), is.0, is.1)
+
+-- where its motions end from now on, or that there is no such place
+pub names : (p : Option Position) (events steps : ℕ) (old new : Stub) → ((is_some p ≡ true) ↔ HasPlace old.desk.first events steps (history_of old.playback))
+    → IsReplayed old new → HasBounds new.desk.bounds old new
+    → IfSome p (λ q. (q ≡ position_of old.desk.first events steps) × (new.desk.bounds ≡ record old.desk.bounds { until = Some q }))
+    → (is_some p ≡ false → new.desk.bounds ≡ old.desk.bounds) → Names events steps old p new
+names (Some p) events steps old new has replayed same there nowhere =
+    (has.0 refl, there.0, replayed, record { history = same.history; view = same.view; stops = same.stops; bounds_are = there.1; first = same.first; recorded = same.recorded })
+names None events steps old new has replayed same there nowhere = (
+  (λ place. absurd (let yes : false ≡ true = has.1 place in cc)),
+  replayed,
+  record { history = same.history; view = same.view; stops = same.stops; bounds_are = nowhere refl; first = same.first; recorded = same.recorded },
+)

@@ -1,14 +1,25 @@
-use Rattle.std.proofs.Common.{◌≡◌, ◌+◌, ◌<◌, ◌∷◌, drop, length, slice_get, Err, Some, refl, ap, sym, subst, ◌∙◌, arith, add-one, rules}
+use Rattle.std.proofs.Common.{◌≡◌, ◌+◌, ◌<◌, ◌∷◌, drop, take, length, slice_get, Err, Some, refl, ap, sym, subst, ◌∙◌, arith, add-one, rules}
 use Rattle.std.specs.Prelude.{IfErr}
+use Rattle.ckrt_machine.specs.Steps.{State}
 use Rattle.ckrt_machine.specs.Events.{AllAccepted}
+use Rattle.ckrt_machine.proofs.Fixed.{same_harts_after}
 use Rattle.std.proofs.lemmas.List.{length_push}
 use Rattle.std.proofs.lemmas.Option.{slice_get_read}
 use Rattle.ckrt_gdb_history.specs.Positions.{state_before, steps_of}
-use Rattle.ckrt_gdb_history.specs.Engine.{IsBeforeEvent}
+use Rattle.ckrt_gdb_history.specs.Engine.{AreSnapshots, IsAlike, IsBeforeEvent}
 use Rattle.ckrt_gdb_history.proofs.PlaceLemmas.{next_ahead}
 use Rattle.ckrt_gdb_history.proofs.SnapshotLemmas.{next_before}
 use Rattle.ckrt_gdb_history.proofs.WayLemmas.{IsOnWay, way_next}
 use Rattle.ckrt_gdb_history.proofs.replay.replay_all.Goals as goal
+
+pub keep_at-requires-clause-alike : goal.keep_at-requires-clause-alike
+keep_at-requires-clause-alike c =
+    let es = c.args.events.now in let s = c.args.machine.now.state in let i = c.loop-event.event-index in
+    let before = c.loop-event.invariant in
+    subst (IsAlike c.loop-event.machine.state) (sym (before.start ∙ c.requires.start)) (record {
+      size = before.size;
+      harts = ap (λ (z : State). z.tables.threads.hart_count) before.state ∙ same_harts_after (take i es) s;
+    })
 
 pub loop-event-preserved : goal.loop-event-preserved
 loop-event-preserved c =
@@ -26,6 +37,7 @@ loop-event-preserved c =
       state = before.state ∙ ap (λ k. state_before k es s) (sym count);
       size = before.size;
     } in
+    let first : c.loop-event.snapshots.start ≡ s = before.start ∙ c.requires.start in
     record {
       way = way_next e (drop (i + 1) es) es s m.state new.state steps c.replay_one.new.steps.items made.accepted made.state made.steps (subst (λ l. IsOnWay l es s m.state steps) ahead before.way);
       size = made.size ∙ before.size;
@@ -33,7 +45,9 @@ loop-event-preserved c =
       state = next_before i e m new es s less is before.state made.state;
       room = omega (arith, before.room, made.room);
       same = made.room ∙ before.same;
-      kept = c.keep_at.ensures es s before.kept here;
+      start = c.keep_at.ensures.start ∙ before.start;
+      kept = subst (AreSnapshots c.keep_at.new.self.kept es) first
+          (c.keep_at.ensures.kept es (subst (AreSnapshots c.loop-event.snapshots.kept es) (sym first) before.kept) (subst (IsBeforeEvent c.len.result m es) (sym first) here));
     }
 
 pub returns-in_err-replay_one-clause-refused : goal.returns-in_err-replay_one-clause-refused

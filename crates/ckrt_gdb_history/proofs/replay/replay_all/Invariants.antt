@@ -12,5 +12,6 @@ invariant-loop-event l = record {
   state : l.machine.state ≡ state_before l.event-index l.events l.fn.machine.state;
   room : length l.events ≤ vec_capacity l.steps;
   same : vec_capacity l.steps ≡ vec_capacity l.fn.steps;
-  kept : AreSnapshots l.snapshots.items l.events l.fn.machine.state;
+  start : l.snapshots.start ≡ l.fn.snapshots.start;
+  kept : AreSnapshots l.snapshots.kept l.events l.fn.machine.state;
 }
