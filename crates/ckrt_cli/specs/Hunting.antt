@@ -24,6 +24,7 @@ use Rattle.ckrt_hunt_schedules.specs.declared.telling.HuntFault.{HuntFault}
 use Rattle.ckrt_hunt_schedules.specs.declared.telling.HuntFault.TheVariants as hunt
 use Rattle.ckrt_hunt_schedules.specs.declared.verdict.Verdict.{Verdict}
 use Rattle.ckrt_hunt_races.specs.Hunts.{IsHuntedWith, told_text, verdict_on}
+use Rattle.ckrt_hunt_races.specs.RaceRuns.{FillsSome, hunted_within}
 use Rattle.ckrt_hunt_races.specs.declared.telling.HuntTold.{HuntTold}
 use Rattle.ckrt_cli_words.specs.Jobs.{Hunting}
 use Rattle.ckrt_cli_files.specs.Openings.{Openings, opened, with_image}
@@ -39,6 +40,7 @@ use Rattle.ckrt_cli.specs.declared.found.KeptAt.{KeptAt}
 use Rattle.ckrt_cli.specs.declared.found.ToldHunt.{ToldHunt}
 use Rattle.ckrt_cli.specs.Inputs.{EndsOnAskedInput, IsAskedInput, with_asked_input}
 use Rattle.ckrt_cli.specs.Keeping.{Keeping, Keeps}
+use Rattle.ckrt_cli.specs.Looking.{room_of}
 
 -- a disk that a run is kept on has the sizes of the hunt, and the longest journal
 abbrev pub config_of : Hunting → Config
@@ -66,14 +68,18 @@ pub record Hunter (D : Type 0) : Type 1 where
 abbrev pub fault_of : HuntFault → JobFault
 fault_of hunt.ImageTooLong = job.Format format.ImageTooLong
 fault_of hunt.OutOfMemory = job.OutOfMemory
+fault_of hunt.ShadowFull = job.ShadowFull
 fault_of hunt.Write = job.Serve serve.Write
 
--- the table was written of the seeds that were run, and their races where they were asked for; where it wasn't, nothing was, but where the writer failed
+-- the table was written of the seeds that were run, and their races where they were asked for; where it wasn't, nothing was, but where the writer
+-- failed; and where the room of the shadow is full, a run fills it
 pub record Tells (guest : List ℕ) (input : Input) (asked : Asked) (a b : Option (List ℕ))
     (told : Result HuntTold HuntFault) : Type 0 where
   pub hunted : IfOk told (IsHuntedWith asked.races guest input asked)
   pub written : IfOk told (λ t. Appends a b (told_text asked t))
   pub unwritten : IfErr told (λ e. e ≢ hunt.Write → b ≡ a)
+  pub full : IfErr told (λ e. e ≡ hunt.ShadowFull
+      → FillsSome (hunted_within asked.room (hunted_of guest asked.shape input)) asked.seeds)
 
 -- What is sought of a seed of a hunt: a plan that comes to the same, or the one that was drawn, and what is kept by it on the disk of a path.
 pub record Sought (D : Type 0) : Type 1 where
@@ -361,6 +367,7 @@ pub record IsAsked (h : Hunting) (asked : Asked) : Type 0 where
   pub may_end : asked.may_end ≡ is_some h.seconds
   pub input : option_map (λ path. path.now) asked.input ≡ h.input
   pub races : asked.races ≡ h.races
+  pub room : asked.room ≡ room_of h.memory
   pub output : asked.shape.ignores_output ≡ h.ignore_output
   pub all_rows : asked.all_rows ≡ h.all_rows
 

@@ -1,5 +1,5 @@
 -- Looking at a stretch of what a disk has recorded: what is told of it is written as a text.
-use Rattle.std.specs.Prelude.{◌≡◌, ◌⊎◌, ℕ, nat_lt, Bool, true, false, List, Option, Some, Result, Ok, Err}
+use Rattle.std.specs.Prelude.{◌≡◌, ◌⊎◌, ℕ, nat_lt, Bool, true, false, List, Option, Some, Result, Ok, Err, unwrap_or}
 use Rattle.ckrt_disk.specs.Frame.{IsOnlyRead}
 use Rattle.ckrt_disk.specs.declared.disk.Disk.{Ghosts}
 use Rattle.ckrt_inspect.specs.Inspect.{is_device}
@@ -7,23 +7,25 @@ use Rattle.ckrt_inspect.specs.declared.fault.InspectFault.{InspectFault}
 use Rattle.ckrt_inspect.specs.declared.fault.InspectFault.TheVariants.{Range}
 use Rattle.ckrt_look_recording.specs.declared.rule.Rule.{Rule}
 use Rattle.ckrt_look_calls.specs.Recorded.{AreLines}
-use Rattle.ckrt_look_calls.specs.Stretches.{Account, TellsStretch}
+use Rattle.ckrt_look_calls.specs.Stretches.{Account, TellsStretch, account}
 use Rattle.ckrt_look_calls.specs.declared.stretch.Stretch.{Stretch}
 use Rattle.ckrt_look_profile.specs.Recorded.{IsProfileText}
 use Rattle.ckrt_look_profile.specs.declared.form.Form.{Form as ProfileTextForm}
 use Rattle.ckrt_look_profile.specs.declared.form.Form.TheVariants as profile
 use Rattle.ckrt_look_heap.specs.Recorded.{IsErrorsText}
-use Rattle.ckrt_look_races.specs.Recorded.{IsRacesText}
+use Rattle.ckrt_look_races.specs.Recorded.{races_account}
+use Rattle.ckrt_look_races.specs.declared.recorded.TheConstants.{ROOM}
 use Rattle.ckrt_look_timeline.specs.Recorded.{IsDrawing}
 use Rattle.ckrt_look_timeline.specs.Widths.{is_width}
 use Rattle.ckrt_look_timeline.specs.declared.recorded.Style.{Style}
 use Rattle.ckrt_look_timeline.specs.declared.words.Form.{Form}
 use Rattle.ckrt_look_timeline.specs.declared.words.Form.TheVariants as form
-use Rattle.ckrt_cli_words.specs.Jobs.{DiskStretch, Drawing, Profiling}
+use Rattle.ckrt_cli_words.specs.Jobs.{DiskStretch, Drawing, Profiling, Shadowing}
 use Rattle.ckrt_cli_words.specs.declared.job.ProfileForm.{ProfileForm}
 use Rattle.ckrt_cli_words.specs.declared.job.ProfileForm.TheVariants as asked
 use Rattle.ckrt_cli_files.specs.Openings.{opened, with_closed, with_disk}
 use Rattle.ckrt_cli_reports.specs.Outside.{IsRefused, Outside, asked_for}
+use Rattle.ckrt_cli_reports.specs.Ranges.{is_room}
 use Rattle.ckrt_cli_reports.specs.declared.fault.JobFault.{JobFault}
 use Rattle.ckrt_cli_reports.specs.declared.fault.JobFault.TheVariants as job
 
@@ -85,19 +87,27 @@ LooksPath d it old new result =
 -- `calls`: its calls, a line each
 abbrev pub TracesPath : {D : Type 0} → Ghosts D → (D → Type 0) → DiskStretch
     → (old new : Outside D) → Result (Unit {0}) JobFault → Type 0
-TracesPath d Opens s old new result = LooksPath d (sight s Opens AreLines) old new result
+TracesPath d Opens s old new result =
+    LooksPath d (sight s Opens (account AreLines)) old new result
 
--- `races`: its data races, a line for each pair of places, with what is told of both accesses by these rules
-abbrev pub RacesPath : {D : Type 0} → Ghosts D → (D → Type 0) → List Rule → DiskStretch
+-- how many bytes a shadow may take
+abbrev pub room_of : Option ℕ → ℕ
+room_of memory = unwrap_or memory ROOM
+
+-- `races`: its data races, a line for each pair of places, with what is told of both accesses by these rules. Where its shadow would have too few bytes
+-- nothing was asked for
+abbrev pub RacesPath : {D : Type 0} → Ghosts D → (D → Type 0) → List Rule → Shadowing
     → (old new : Outside D) → Result (Unit {0}) JobFault → Type 0
 RacesPath d Opens rules s old new result =
-    LooksPath d (sight s Opens (IsRacesText rules)) old new result
+    ((is_room s.memory ≡ false) × (result ≡ Err job.Range) × (new ≡ old))
+    ⊎ ((is_room s.memory ≡ true)
+    × LooksPath d (sight s.stretch Opens (races_account rules (room_of s.memory))) old new result)
 
 -- `check`: its errors of memory, a line for each place, with what is told of the first one there by these rules
 abbrev pub ChecksPath : {D : Type 0} → Ghosts D → (D → Type 0) → List Rule → DiskStretch
     → (old new : Outside D) → Result (Unit {0}) JobFault → Type 0
 ChecksPath d Opens rules s old new result =
-    LooksPath d (sight s Opens (IsErrorsText rules)) old new result
+    LooksPath d (sight s Opens (account (IsErrorsText rules))) old new result
 
 -- `timeline`: what its threads did, as trace events with `--json`, else as a picture
 abbrev pub form_of : Bool → Form
@@ -113,7 +123,7 @@ abbrev pub TimelinePath : {D : Type 0} → Ghosts D → (D → Type 0) → Drawi
 TimelinePath d Opens j old new result =
     ((is_width j.width ≡ false) × (result ≡ Err job.Range) × (new ≡ old))
     ⊎ ((is_width j.width ≡ true)
-    × LooksPath d (sight j.stretch Opens (IsDrawing (style_of j))) old new result)
+    × LooksPath d (sight j.stretch Opens (account (IsDrawing (style_of j)))) old new result)
 
 -- `profile`: where its steps went, in the form that the words ask for
 abbrev pub profile_form_of : ProfileForm → ProfileTextForm
@@ -124,4 +134,5 @@ profile_form_of asked.Callgrind = profile.Callgrind
 abbrev pub ProfilesPath : {D : Type 0} → Ghosts D → (D → Type 0) → Profiling
     → (old new : Outside D) → Result (Unit {0}) JobFault → Type 0
 ProfilesPath d Opens p old new result =
-    LooksPath d (sight p.stretch Opens (IsProfileText (profile_form_of p.form))) old new result
+    LooksPath d (sight p.stretch Opens (account (IsProfileText (profile_form_of p.form)))) old new
+    result

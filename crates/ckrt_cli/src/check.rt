@@ -25,9 +25,10 @@ struct Errors<'a> {
 }
 
 impl Telling for Errors<'_> {
+    ghost use Rattle.ckrt_look_calls.specs.Stretches.{account};
     ghost use Rattle.ckrt_look_heap.specs.Recorded.{IsErrorsText};
 
-    ghost Tells = { λ r. IsErrorsText r.rules.now };
+    ghost Tells = { λ r. account (IsErrorsText r.rules.now) };
 
     fn tell<W: Write>(
         &self,

@@ -11,6 +11,7 @@ ghost use Rattle.ckrt_cli.specs.Hunting.{EndsHunt, HuntsPath, IsUnkeepable, Keep
 use crate::folder::{is_folder, keep_in_folder, outcome_path};
 use crate::found::{KeptAt, ToldHunt, keep_first};
 use crate::input::asked_input;
+use crate::races::room_of;
 use ckrt_cli_disk::fitting_image;
 use ckrt_cli_files::{FileFault, JobFile, Sources};
 use ckrt_cli_reports::{JobFault, is_hunt_in_range};
@@ -94,6 +95,7 @@ fn fault_of(fault: HuntFault) -> JobFault
     match fault {
         HuntFault::ImageTooLong => JobFault::Format(FormatFault::ImageTooLong),
         HuntFault::OutOfMemory => JobFault::OutOfMemory,
+        HuntFault::ShadowFull => JobFault::ShadowFull,
         HuntFault::Write => JobFault::Serve(ServeFault::Write),
     }
 }
@@ -252,11 +254,11 @@ fn hunt_image<'a, I: Read, D: Disk, S: Sources<'a, I, D>, W: Write, O: HuntOnloo
 ///
 /// # Errors
 ///
-/// The first that applies: `BadConfig` where pages or harts are out of their ranges; `Range` where seconds are, where there are seeds
-/// beside seconds, or where the text of the seeds isn't a range; `File` where no disk can be made at the path where one is to be kept, in a
+/// The first that applies: `BadConfig` where pages or harts are out of their ranges; `Range` where seconds or bytes of the shadow are, where
+/// there are seeds beside seconds, or such bytes without a look at races, or where the text of the seeds isn't a range; `File` where no disk can be made at the path where one is to be kept, in a
 /// folder the first one; `File` and `OutOfMemory` of the image, `File` also where it is an ELF
 /// file; `ImageTooLong`; of the input `File`, `OutOfMemory`, and `InputTooLong` where it has more than 1,048,576 bytes; `OutOfMemory` of
-/// the hunt; `Serve` where the writer failed; of the disk `OutOfMemory` of the search for a schedule, `File`, what formatting and recovery
+/// the hunt, and `ShadowFull` where a run that is looked at fills the room of the shadow; `Serve` where the writer failed; of the disk `OutOfMemory` of the search for a schedule, `File`, what formatting and recovery
 /// answer, `RunTooLong`, and `Serve` where the writer failed once the disk had its name.
 pub fn hunt_path<'a, I: Read + Drop, D: Disk, S: Sources<'a, I, D>, W: Write, O: HuntOnlooker>(
     alloc: Global,
@@ -299,6 +301,7 @@ pub fn hunt_path<'a, I: Read + Drop, D: Disk, S: Sources<'a, I, D>, W: Write, O:
         may_end: job.seconds.is_some(),
         input: job.input,
         races: job.races,
+        room: room_of(job.memory),
         all_rows: job.all_rows,
     };
     let hunted = Hunted {

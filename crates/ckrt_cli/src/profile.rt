@@ -25,7 +25,9 @@ struct Profile {
 }
 
 impl Telling for Profile {
-    ghost Tells = { λ p. IsProfileText (profile_form_of p.form) };
+    ghost use Rattle.ckrt_look_calls.specs.Stretches.{account};
+
+    ghost Tells = { λ p. account (IsProfileText (profile_form_of p.form)) };
 
     fn tell<W: Write>(
         &self,

@@ -1,33 +1,42 @@
 //! Telling the data races of what a disk has recorded.
-ghost use Rattle.std.specs.Prelude.{ℕ, List, Option};
-ghost use Rattle.ckrt_cli_words.specs.Jobs.{disk_stretch_of};
+ghost use Rattle.std.specs.Prelude.{◌≡◌, ℕ, List, Option};
+ghost use Rattle.ckrt_cli_words.specs.Jobs.{shadowing_of};
 ghost use Rattle.ckrt_cli_reports.specs.Outside.{outside};
-ghost use Rattle.ckrt_cli.specs.Looking.{RacesPath};
+ghost use Rattle.ckrt_cli.specs.Looking.{RacesPath, room_of};
 
 use crate::looking::look_path;
 use ckrt_cli_files::Sources;
-use ckrt_cli_reports::JobFault;
-use ckrt_cli_words::StretchJob;
+use ckrt_cli_reports::{JobFault, is_room};
+use ckrt_cli_words::ShadowJob;
 use ckrt_disk::Disk;
 use ckrt_events::Event;
 use ckrt_inspect::InspectFault;
 use ckrt_look_calls::Telling;
-use ckrt_look_races::write_races;
+use ckrt_look_races::{ROOM, write_races};
 use ckrt_look_recording::Rule;
 use ckrt_machine::Machine;
 use std::alloc::Global;
 use std::io::{Read, Write};
 
-/// Its data races, a line for each pair of places, with what is told of both accesses. Callers are found by rules.
+/// How many bytes a shadow may take.
+pub(crate) fn room_of(memory: Option<u64>) -> u64
+    ensures { result ≡ room_of memory }
+{
+    memory.unwrap_or(ROOM)
+}
+
+/// Its data races, a line for each pair of places, with what is told of both accesses. Callers are found by rules, and the shadow may take so
+/// many bytes.
 #[derive(Clone, Copy)]
 struct Races<'a> {
     rules: &'a [Rule],
+    room: u64,
 }
 
 impl Telling for Races<'_> {
-    ghost use Rattle.ckrt_look_races.specs.Recorded.{IsRacesText};
+    ghost use Rattle.ckrt_look_races.specs.Recorded.{races_account};
 
-    ghost Tells = { λ r. IsRacesText r.rules.now };
+    ghost Tells = { λ r. races_account r.rules.now r.room };
 
     fn tell<W: Write>(
         &self,
@@ -37,7 +46,7 @@ impl Telling for Races<'_> {
         events: &[Event],
         out: &mut W,
     ) -> Result<(), InspectFault> {
-        write_races(alloc, machine, count, events, self.rules, out)
+        write_races(alloc, machine, count, events, self.rules, self.room, out)
     }
 }
 
@@ -46,19 +55,27 @@ impl Telling for Races<'_> {
 ///
 /// # Errors
 ///
-/// As those of [`calls_path`](crate::calls_path).
+/// As those of [`calls_path`](crate::calls_path), and `Range` where the shadow would have fewer than 1,048,576 bytes, before anything is
+/// opened; `Inspect` of `ShadowFull` where the events fill its room.
 pub fn races_path<'a, I: Read, D: Disk, S: Sources<'a, I, D>, W: Write>(
     alloc: Global,
-    job: &StretchJob<'a>,
+    job: &ShadowJob<'a>,
     rules: &[Rule],
     sources: &mut S,
     writer: &mut W,
 ) -> Result<(), JobFault>
     ensures races { (left : Option (List ℕ))
-        → RacesPath D.Disk (S.opens sources.old job.now.disk.now) rules.now
-        (disk_stretch_of job.now)
+        → RacesPath D.Disk (S.opens sources.old job.now.stretch.disk.now) rules.now
+        (shadowing_of job.now)
         (outside (S.openings sources.old) (W.contents writer.old) left)
         (outside (S.openings sources.new) (W.contents writer.new) left) result }
 {
-    look_path::<I, D, S, Races, W>(alloc, job, &Races { rules }, sources, writer)
+    if !is_room(job.memory) {
+        return Err(JobFault::Range);
+    }
+    let races = Races {
+        rules,
+        room: room_of(job.memory),
+    };
+    look_path::<I, D, S, Races, W>(alloc, &job.stretch, &races, sources, writer)
 }

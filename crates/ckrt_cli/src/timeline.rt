@@ -26,9 +26,10 @@ struct Timeline {
 }
 
 impl Telling for Timeline {
+    ghost use Rattle.ckrt_look_calls.specs.Stretches.{account};
     ghost use Rattle.ckrt_look_timeline.specs.Recorded.{IsDrawing};
 
-    ghost Tells = { λ self. IsDrawing self.style };
+    ghost Tells = { λ self. account (IsDrawing self.style) };
 
     fn tell<W: Write>(
         &self,

@@ -43,6 +43,7 @@ name_of_look look.Device = codes "Device"
 name_of_look look.OutOfMemory = codes "OutOfMemory"
 name_of_look look.Write = codes "Write"
 name_of_look look.Range = codes "Range"
+name_of_look look.ShadowFull = codes "ShadowFull"
 
 abbrev pub name_of_drive : DriveFault → List ℕ
 name_of_drive drive.Device = codes "Device"
@@ -58,6 +59,7 @@ name_of (job.File at fault.OutOfMemory) = codes "OutOfMemory"
 name_of (job.File at fault.NotADisk) = codes "NotADisk"
 name_of (job.File at why) = codes "File"
 name_of job.OutOfMemory = codes "OutOfMemory"
+name_of job.ShadowFull = codes "ShadowFull"
 name_of (job.Format f) = name_of_format f
 name_of (job.Recover f) = name_of_recover f
 name_of (job.Serve f) = name_of_serve f

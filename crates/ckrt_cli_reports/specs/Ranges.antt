@@ -55,8 +55,20 @@ abbrev pub is_tabled : (table : Option (List ℕ)) → (races : Bool) → Bool
 is_tabled None races = true
 is_tabled (Some path) races = not races
 
+-- a shadow may take 1 MiB or more
+abbrev pub is_room : Option ℕ → Bool
+is_room None = true
+is_room (Some bytes) = nat_le 1048576 bytes
+
+-- and of hunts only those that look at races have one
+abbrev pub is_shadowed : (memory : Option ℕ) → (races : Bool) → Bool
+is_shadowed None races = true
+is_shadowed (Some bytes) races = races
+
 -- what a hunt is told besides its sizes and the text of its seeds
 abbrev pub is_hunt_in_range : Hunting → Bool
 is_hunt_in_range h =
     is_choice h.seeds h.seconds
-    && (is_time h.seconds && (is_interval h.progress && is_tabled h.table h.races))
+    && (is_time h.seconds
+    && (is_interval h.progress
+    && (is_tabled h.table h.races && (is_shadowed h.memory h.races && is_room h.memory))))

@@ -17,6 +17,8 @@ pub enum JobFault {
     File(JobFile, FileFault),
     /// There was no memory for the image, for the core, or for a debugger's session.
     OutOfMemory,
+    /// A run of a hunt that was looked at for races fills the room of the shadow.
+    ShadowFull,
     /// The disk wasn't formatted.
     Format(FormatFault),
     /// Nothing was recovered from the disk.
@@ -64,6 +66,14 @@ const INPUT_ADVICE: &str = "a read failed; look after its device, then the same 
 
 /// What is said of a disk that has no place for the record of the input.
 const RECORD_ADVICE: &str = "it has no room for the record of the input; make it 4096 bytes longer";
+
+/// What is said of a look whose shadow has no room left.
+const SHADOW_ADVICE: &str =
+    "the shadow of its memory has no room left; give more bytes by --memory (it has 2349096960 without it), or look at fewer events by --from, --to or --last";
+
+/// What is said of a hunt where a run has no room left for its shadow.
+const HUNTED_SHADOW_ADVICE: &str =
+    "the shadow of a run's memory has no room left; give more bytes by --memory (it has 2349096960 without it), or fewer --steps";
 
 /// What is said of a fault of formatting.
 fn format_advice(fault: FormatFault) -> &'static str {
@@ -114,6 +124,7 @@ fn inspection_advice(fault: InspectFault) -> &'static str {
         InspectFault::Damaged => recovery_advice(RecoverFault::Damaged),
         InspectFault::Device => DEVICE_ADVICE,
         InspectFault::OutOfMemory => FileFault::OutOfMemory.text(),
+        InspectFault::ShadowFull => SHADOW_ADVICE,
         InspectFault::Write => service_advice(ServeFault::Write),
         InspectFault::Range => {
             "it has no state after --at events, no longer or not yet; give another number, or leave --at out"
@@ -133,6 +144,7 @@ fn inspection_name(fault: InspectFault) -> &'static str
         InspectFault::OutOfMemory => "OutOfMemory",
         InspectFault::Write => "Write",
         InspectFault::Range => "Range",
+        InspectFault::ShadowFull => "ShadowFull",
     }
 }
 
@@ -238,6 +250,7 @@ impl JobFault {
             | JobFault::Format(FormatFault::OutOfMemory)
             | JobFault::Recover(RecoverFault::OutOfMemory)
             | JobFault::Serve(ServeFault::OutOfMemory) => "OutOfMemory",
+            JobFault::ShadowFull => "ShadowFull",
             JobFault::Format(FormatFault::Device) | JobFault::Recover(RecoverFault::Device) => {
                 "Device"
             }
@@ -274,6 +287,7 @@ impl JobFault {
         match self {
             JobFault::File(_, fault) => fault.text(),
             JobFault::OutOfMemory => FileFault::OutOfMemory.text(),
+            JobFault::ShadowFull => HUNTED_SHADOW_ADVICE,
             JobFault::Format(fault) => format_advice(fault),
             JobFault::Recover(fault) => recovery_advice(fault),
             JobFault::Serve(fault) => service_advice(fault),
@@ -299,7 +313,9 @@ impl JobFault {
     pub fn file(self) -> Option<JobFile> {
         match self {
             JobFault::File(file, _) => Some(file),
-            JobFault::Format(FormatFault::ImageTooLong) => Some(JobFile::Image),
+            JobFault::Format(FormatFault::ImageTooLong) | JobFault::ShadowFull => {
+                Some(JobFile::Image)
+            }
             JobFault::Format(
                 FormatFault::AlreadyFormatted | FormatFault::TooSmall | FormatFault::Device,
             ) => Some(JobFile::Disk),
@@ -314,6 +330,7 @@ impl JobFault {
                 | InspectFault::Version
                 | InspectFault::Damaged
                 | InspectFault::Device
+                | InspectFault::ShadowFull
                 | InspectFault::Range,
             ) => Some(JobFile::Disk),
             JobFault::SizesDiffer(_)

@@ -1,7 +1,7 @@
 //! The numbers of the words: what is given where they have none, and which of them are in their ranges.
 ghost use Rattle.std.specs.Prelude.{◌≡◌, option_map};
 ghost use Rattle.ckrt_cli_words.specs.Jobs.{driving_of, hunting_of};
-ghost use Rattle.ckrt_cli_reports.specs.Ranges.{config_for, is_choice, is_hunt_in_range, is_in_range, is_intake, is_tabled, is_target, is_time};
+ghost use Rattle.ckrt_cli_reports.specs.Ranges.{config_for, is_choice, is_hunt_in_range, is_in_range, is_intake, is_room, is_shadowed, is_tabled, is_target, is_time};
 
 use ckrt_cli_words::{DriveJob, HuntJob, Sizes};
 use ckrt_drive::TAKEN_LIMIT;
@@ -10,6 +10,9 @@ use ckrt_recovery::Config;
 
 /// For how many seconds a hunt takes seeds at most: 365 days.
 const MOST_SECONDS: u64 = 31_536_000;
+
+/// How many bytes a shadow may take at least: 1 MiB.
+const LEAST_ROOM: u64 = 1_048_576;
 
 /// What a disk is made with: what `format` takes, where a size isn't given.
 pub fn config_for(sizes: &Sizes) -> Config
@@ -76,8 +79,25 @@ pub fn is_tabled(table: Option<&str>, races: bool) -> bool
     table.is_none() || !races
 }
 
-/// Whether the numbers of a hunt, but for its sizes, are in their ranges, it takes seeds from one range or by time, and no file has its table
-/// where that has races.
+/// Whether a shadow may take 1,048,576 bytes or more, where the words say how many.
+pub fn is_room(memory: Option<u64>) -> bool
+    ensures { result ≡ is_room memory }
+{
+    match memory {
+        Some(bytes) => LEAST_ROOM <= bytes,
+        None => true,
+    }
+}
+
+/// Whether the words of a hunt say how many bytes a shadow may take only where it has one: where it is looked at for races.
+pub fn is_shadowed(memory: Option<u64>, races: bool) -> bool
+    ensures { result ≡ is_shadowed memory races }
+{
+    memory.is_none() || races
+}
+
+/// Whether the numbers of a hunt, but for its sizes, are in their ranges, it takes seeds from one range or by time, no file has its table
+/// where that has races, and there is room for a shadow where races are looked for alone.
 pub fn is_hunt_in_range(job: &HuntJob<'_>) -> bool
     ensures { result ≡ is_hunt_in_range (hunting_of job.now) }
 {
@@ -85,4 +105,6 @@ pub fn is_hunt_in_range(job: &HuntJob<'_>) -> bool
         && is_time(job.seconds)
         && job.progress != Some(0)
         && is_tabled(job.table, job.races)
+        && is_shadowed(job.memory, job.races)
+        && is_room(job.memory)
 }

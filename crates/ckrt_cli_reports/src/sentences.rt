@@ -1,9 +1,9 @@
 //! What is said of a fault: of its file, of its numbers, and of numbers in the words that are out of their ranges.
 use crate::fault::JobFault;
 use crate::notes::ScheduleNotes;
-use crate::ranges::{config_for, is_choice, is_target, is_time};
+use crate::ranges::{config_for, is_choice, is_room, is_shadowed, is_target, is_time};
 use ckrt_cli_files::JobFile;
-use ckrt_cli_words::{DriveJob, HuntJob, Job, TimelineJob};
+use ckrt_cli_words::{DriveJob, HuntJob, Job, ShadowJob, TimelineJob};
 use ckrt_events::LONG_RUN_LIMIT;
 use ckrt_recovery::{Config, FormatFault};
 use ckrt_stored::ScheduleNote;
@@ -100,6 +100,24 @@ fn unfit_drive(job: &DriveJob<'_>) -> Sentence<'static> {
     plain("--input-from is below 2^62, and goes with --input: ")
 }
 
+/// How many bytes of a shadow are too few.
+fn few_bytes(memory: Option<u64>) -> Sentence<'static> {
+    let bytes = memory.unwrap_or(0);
+    one(
+        "--memory ",
+        Piece::Number(bytes),
+        " isn't 1048576 or more: ",
+    )
+}
+
+/// Which number of a look with a shadow is out of its range.
+fn unfit_shadow(job: &ShadowJob<'_>) -> Sentence<'static> {
+    if !is_room(job.memory) {
+        return few_bytes(job.memory);
+    }
+    plain(TURNED)
+}
+
 /// Which number of a timeline is out of its range.
 fn unfit_drawing(job: &TimelineJob<'_>) -> Sentence<'static> {
     if is_outside(400, 4000, job.width) {
@@ -122,6 +140,12 @@ fn unfit_hunt(job: &HuntJob<'_>) -> Sentence<'static> {
     if job.races && job.table.is_some() {
         return plain("--table doesn't go with --races: ");
     }
+    if !is_shadowed(job.memory, job.races) {
+        return plain("--memory goes with --races alone: ");
+    }
+    if !is_room(job.memory) {
+        return few_bytes(job.memory);
+    }
     plain(
         "--seeds isn't FIRST-LAST, two numbers below 2^64 - 1, the first one not above the last: ",
     )
@@ -131,7 +155,8 @@ fn unfit_hunt(job: &HuntJob<'_>) -> Sentence<'static> {
 fn unfit(job: &Job<'_>) -> Sentence<'static> {
     match job {
         Job::Drive(job) => unfit_drive(job),
-        Job::Calls(_) | Job::Races(_) | Job::Check(_) | Job::Profile(_) => plain(TURNED),
+        Job::Calls(_) | Job::Check(_) | Job::Profile(_) => plain(TURNED),
+        Job::Races(job) => unfit_shadow(job),
         Job::Timeline(job) => unfit_drawing(job),
         Job::Hunt(job) => unfit_hunt(job),
         _ => plain(""),
@@ -261,7 +286,7 @@ fn path<'a>(job: &Job<'a>, file: JobFile) -> &'a str {
         (Job::Core(job), JobFile::Core) => job.file,
         (Job::Calls(job), JobFile::Disk) => job.disk,
         (Job::Debug(job), JobFile::Disk) => job.disk,
-        (Job::Races(job), JobFile::Disk) => job.disk,
+        (Job::Races(job), JobFile::Disk) => job.stretch.disk,
         (Job::Check(job), JobFile::Disk) => job.disk,
         (Job::Timeline(job), JobFile::Disk) => job.stretch.disk,
         (Job::Profile(job), JobFile::Disk) => job.stretch.disk,

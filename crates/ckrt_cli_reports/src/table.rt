@@ -56,6 +56,7 @@ impl HuntAsked {
             may_end: self.may_end,
             input,
             races: false,
+            room: 0,
             all_rows: self.all_rows,
         }
     }

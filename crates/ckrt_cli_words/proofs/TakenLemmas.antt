@@ -86,7 +86,7 @@ debug_rules : AreRules debug_shape refl debug_shape.rules
 debug_rules = ((refl, inl (refl, refl)), ((refl, inl (refl, refl)), ((refl, inr (inl refl)), tt)))
 
 races_rules : AreRules races_shape refl races_shape.rules
-races_rules = ((refl, inl (refl, refl)), ((refl, inl (refl, refl)), ((refl, inl (refl, refl)), ((refl, inl (refl, refl)), ((refl, inl (refl, refl)), ((refl, inr (inl refl)), tt))))))
+races_rules = ((refl, inl (refl, refl)), ((refl, inl (refl, refl)), ((refl, inl (refl, refl)), ((refl, inl (refl, refl)), ((refl, inl (refl, refl)), ((refl, inl (refl, refl)), ((refl, inr (inl refl)), tt)))))))
 
 check_rules : AreRules check_shape refl check_shape.rules
 check_rules = ((refl, inl (refl, refl)), ((refl, inl (refl, refl)), ((refl, inl (refl, refl)), ((refl, inl (refl, refl)), ((refl, inl (refl, refl)), ((refl, inr (inl refl)), tt))))))
@@ -98,7 +98,7 @@ profile_rules : AreRules profile_shape refl profile_shape.rules
 profile_rules = ((refl, inl (refl, refl)), ((refl, inl (refl, refl)), ((refl, inl (refl, refl)), ((refl, inl (refl, refl)), ((refl, inl (refl, refl)), ((refl, inr (inr (refl, (_, [], refl)))), ((refl, inr (inr (refl, (_, [], refl)))), ((refl, inr (inl refl)), tt))))))))
 
 hunt_rules : AreRules hunt_shape refl hunt_shape.rules
-hunt_rules = ((refl, inl (refl, refl)), ((refl, inl (refl, refl)), ((refl, inl (refl, refl)), ((refl, inl (refl, refl)), ((refl, inl (refl, refl)), ((refl, inl (refl, refl)), ((refl, inl (refl, refl)), ((refl, inr (inr (refl, (_, [], refl)))), ((refl, inr (inr (refl, (_, [], refl)))), ((refl, inr (inr (refl, (_, [], refl)))), ((refl, inl (refl, refl)), ((refl, inl (refl, refl)), ((refl, inl (refl, refl)), ((refl, inl (refl, refl)), ((refl, inl (refl, refl)), ((refl, inr (inl refl)), tt))))))))))))))))
+hunt_rules = ((refl, inl (refl, refl)), ((refl, inl (refl, refl)), ((refl, inl (refl, refl)), ((refl, inl (refl, refl)), ((refl, inl (refl, refl)), ((refl, inl (refl, refl)), ((refl, inl (refl, refl)), ((refl, inr (inr (refl, (_, [], refl)))), ((refl, inl (refl, refl)), ((refl, inr (inr (refl, (_, [], refl)))), ((refl, inr (inr (refl, (_, [], refl)))), ((refl, inl (refl, refl)), ((refl, inl (refl, refl)), ((refl, inl (refl, refl)), ((refl, inl (refl, refl)), ((refl, inl (refl, refl)), ((refl, inr (inl refl)), tt)))))))))))))))))
 
 number_there : (v : Text) → accepts false (vp.Signed (pos 0) (pos 4294967295)) v ≡ true → (n : ℕ) × (number_of 32 (without_minus v) ≡ Some n)
 number_there v pass =
@@ -159,7 +159,7 @@ races_named words pass =
     let kept = level_kept races_shape refl races_rules [] nothing_held words false pass tt in
     let given = has_required races_shape rows false (level_valid races_shape [] nothing_held words false pass) refl in
     let stretch = stretch_there races_shape refl rows _ kept refl (both (is_given (codes "disk") rows) true given).0 in
-    (races stretch.0, ap (option_map races) stretch.1)
+    (races (record { stretch = stretch.0; memory = place_in (codes "memory") rows }), rw stretch.1 refl)
 
 check_named : (words : List Text) → level_passes check_shape [] nothing_held words false ≡ true → (r : Request) × (request_in (rows_at check_shape words) ≡ Some r)
 check_named words pass =
@@ -246,7 +246,7 @@ hunt_named words pass =
     let seconds = place_in (codes "seconds") rows in
     let progress = place_in (codes "progress") rows in
     let input = first_of (codes "input") rows in
-    (hunt (record { image = image.0; seeds = seeds; seconds = seconds; pages = pages.0; harts = harts.0; input = input; steps = steps.0; races = flag_in (codes "races") rows; ignore_output = flag_in (codes "ignore-output") rows; all_rows = flag_in (codes "rows") rows; keep = first_of (codes "keep") rows; table = first_of (codes "table") rows; progress = progress }), rw (image.1, pages.1, harts.1, steps.1) refl)
+    (hunt (record { image = image.0; seeds = seeds; seconds = seconds; pages = pages.0; harts = harts.0; input = input; steps = steps.0; races = flag_in (codes "races") rows; memory = place_in (codes "memory") rows; ignore_output = flag_in (codes "ignore-output") rows; all_rows = flag_in (codes "rows") rows; keep = first_of (codes "keep") rows; table = first_of (codes "table") rows; progress = progress }), rw (image.1, pages.1, harts.1, steps.1) refl)
 
 drive_named : (words : List Text) → level_passes drive_shape [] nothing_held words false ≡ true → (r : Request) × (request_in (rows_at drive_shape words) ≡ Some r)
 drive_named words pass =

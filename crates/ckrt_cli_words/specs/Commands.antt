@@ -1,10 +1,10 @@
 -- The program's command line, as `clap` sees it: `format DISK IMAGE [--pages P] [--harts H] [--journal J] [--env NAME=VALUE]`, `run DISK`,
 -- `inspect DISK [--at K] [--code] [--names FILE]`, `core DISK FILE [--at K]`, `calls DISK [--from K] [--to K] [--last N] [--names FILE]`,
--- `debug DISK [--at K]`, `races DISK [--from K] [--to K] [--last N] [--names FILE]`, `check DISK` with the same,
+-- `debug DISK [--at K]`, `races DISK [--from K] [--to K] [--last N] [--names FILE] [--memory BYTES]`, `check DISK [--from K] [--to K] [--last N] [--names FILE]`,
 -- `timeline DISK [--from K] [--to K] [--last N] [--names FILE] [--width W] [--json]`,
 -- `profile DISK [--from K] [--to K] [--last N] [--names FILE] [--folded | --callgrind]`,
--- `hunt IMAGE [--seeds A-B | --seconds S] [--pages P] [--harts H] [--input FILE] [--steps N] [--races] [--ignore-output] [--rows] [--keep DISK | FOLDER/] [--table FILE] [--progress SECONDS]
--- [--names FILE] [--env NAME=VALUE]` and
+-- `hunt IMAGE [--seeds A-B | --seconds S] [--pages P] [--harts H] [--input FILE] [--steps N] [--races] [--memory BYTES] [--ignore-output] [--rows] [--keep DISK | FOLDER/] [--table FILE]
+-- [--progress SECONDS] [--names FILE] [--env NAME=VALUE]` and
 -- `drive DISK [--image IMAGE] [--pages P] [--harts H] [--journal J] [--input FILE] [--input-from OFFSET] [--output FILE] [--turn N] [--rounds-per-commit R] [--events N] [--seed S] [--other-schedule]
 -- [--progress SECONDS] [--status FILE] [--from OFFSET] [--names FILE] [--env NAME=VALUE]`.
 use Rattle.std.specs.Prelude.{pos, codes, fold, Some, true, List, [], ◌∷◌}
@@ -96,8 +96,12 @@ debug_app =
     (needed_rule (codes "disk")))
     (place_rule (codes "at"))
 
+-- and how many bytes a shadow may take
+abbrev pub shadow_app : App → App
+shadow_app named = with_rule (stretch_app named) (place_rule (codes "memory"))
+
 abbrev pub races_app : App
-races_app = stretch_app (new_app (codes "races"))
+races_app = shadow_app (new_app (codes "races"))
 
 abbrev pub check_app : App
 check_app = stretch_app (new_app (codes "check"))
@@ -117,7 +121,7 @@ profile_app =
 abbrev pub hunt_app : App
 hunt_app =
     with_rule (with_rule (with_rule (with_rule (with_rule (with_rule (with_rule (with_rule (with_rule (with_rule (with_rule (with_rule (with_rule
-    (with_rule (with_rule (new_app (codes "hunt"))
+    (with_rule (with_rule (with_rule (new_app (codes "hunt"))
     (needed_rule (codes "image")))
     (option_rule (codes "seeds")))
     (place_rule (codes "seconds")))
@@ -126,6 +130,7 @@ hunt_app =
     (option_rule (codes "input")))
     (number_rule (codes "steps") (codes "10000000")))
     (flag_rule (codes "races")))
+    (place_rule (codes "memory")))
     (flag_rule (codes "ignore-output")))
     (flag_rule (codes "rows")))
     (option_rule (codes "keep")))

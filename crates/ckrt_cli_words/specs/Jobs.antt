@@ -11,6 +11,7 @@ use Rattle.ckrt_cli_words.specs.declared.job.Job.{Job}
 use Rattle.ckrt_cli_words.specs.declared.job.Job.TheVariants as job
 use Rattle.ckrt_cli_words.specs.declared.job.FormatJob.{FormatJob}
 use Rattle.ckrt_cli_words.specs.declared.job.InspectJob.{InspectJob}
+use Rattle.ckrt_cli_words.specs.declared.job.ShadowJob.{ShadowJob}
 use Rattle.ckrt_cli_words.specs.declared.job.StretchJob.{StretchJob}
 use Rattle.ckrt_cli_words.specs.declared.job.CoreJob.{CoreJob}
 use Rattle.ckrt_cli_words.specs.declared.job.DebugJob.{DebugJob}
@@ -49,6 +50,11 @@ pub record DiskStretch : Type 0 where
   pub to : Option ℕ
   pub last : Option ℕ
 
+-- a stretch that is looked at with a shadow, and how many bytes that may take
+pub record Shadowing : Type 0 where
+  pub stretch : DiskStretch
+  pub memory : Option ℕ
+
 -- what `debug` serves to a debugger: which disk, and behind how many events it begins
 pub record Debugging : Type 0 where
   pub disk : Text
@@ -66,7 +72,7 @@ pub record Profiling : Type 0 where
   pub form : ProfileForm
 
 -- what `hunt` runs: the image, the text of its range of seeds, or after how many seconds it takes no further seed, the sizes, the file of each
--- run's input, how many steps a run has at most, whether each is looked at for races, whether outcomes that differ in their output alone are one, whether its table has each row, the new disk or the folder that runs are kept on, the file
+-- run's input, how many steps a run has at most, whether each is looked at for races, how many bytes their shadow may take, whether outcomes that differ in their output alone are one, whether its table has each row, the new disk or the folder that runs are kept on, the file
 -- that has its table while it runs, and at most each how many seconds it tells how far it is
 pub record Hunting : Type 0 where
   pub image : Text
@@ -77,6 +83,7 @@ pub record Hunting : Type 0 where
   pub input : Option Text
   pub steps : ℕ
   pub races : Bool
+  pub memory : Option ℕ
   pub ignore_output : Bool
   pub all_rows : Bool
   pub keep : Option Text
@@ -113,7 +120,7 @@ pub data Request : Type 0 where
   core : CoreMaking → Request
   calls : DiskStretch → Request
   debug : Debugging → Request
-  races : DiskStretch → Request
+  races : Shadowing → Request
   timeline : Drawing → Request
   profile : Profiling → Request
   hunt : Hunting → Request
@@ -138,6 +145,9 @@ core_making_of c = record { disk = c.disk.now; file = c.file.now; at = c.at }
 abbrev pub disk_stretch_of : StretchJob → DiskStretch
 disk_stretch_of s = record { disk = s.disk.now; from = s.from; to = s.to; last = s.last }
 
+abbrev pub shadowing_of : ShadowJob → Shadowing
+shadowing_of s = record { stretch = disk_stretch_of s.stretch; memory = s.memory }
+
 abbrev pub debugging_of : DebugJob → Debugging
 debugging_of d = record { disk = d.disk.now; at = d.at }
 
@@ -157,6 +167,7 @@ hunting_of h = record {
   input = option_map (λ path. path.now) h.input;
   steps = h.steps;
   races = h.races;
+  memory = h.memory;
   ignore_output = h.ignore_output;
   all_rows = h.all_rows;
   keep = option_map (λ path. path.now) h.keep;
@@ -192,7 +203,7 @@ request_of (job.Drive d) = drive (driving_of d)
 request_of (job.Core c) = core (core_making_of c)
 request_of (job.Calls s) = calls (disk_stretch_of s)
 request_of (job.Debug d) = debug (debugging_of d)
-request_of (job.Races s) = races (disk_stretch_of s)
+request_of (job.Races s) = races (shadowing_of s)
 request_of (job.Timeline t) = timeline (drawing_of t)
 request_of (job.Profile p) = profile (profiling_of p)
 request_of (job.Hunt h) = hunt (hunting_of h)
@@ -255,6 +266,11 @@ disk_stretch_in rows = do
     last = place_in (codes "last") rows;
   })
 
+abbrev pub shadowing_in : List Row → Option Shadowing
+shadowing_in rows = do
+  stretch ← disk_stretch_in rows
+  Some (record { stretch = stretch; memory = place_in (codes "memory") rows })
+
 abbrev pub debugging_in : List Row → Option Debugging
 debugging_in rows = do
   disk ← first_of (codes "disk") rows
@@ -297,6 +313,7 @@ hunting_in rows = do
     input = first_of (codes "input") rows;
     steps = steps;
     races = flag_in (codes "races") rows;
+    memory = place_in (codes "memory") rows;
     ignore_output = flag_in (codes "ignore-output") rows;
     all_rows = flag_in (codes "rows") rows;
     keep = first_of (codes "keep") rows;
@@ -340,7 +357,7 @@ request_in p =
     else if bytes_eq p.0 (codes "core") then option_map core (core_making_in p.1)
     else if bytes_eq p.0 (codes "calls") then option_map calls (disk_stretch_in p.1)
     else if bytes_eq p.0 (codes "debug") then option_map debug (debugging_in p.1)
-    else if bytes_eq p.0 (codes "races") then option_map races (disk_stretch_in p.1)
+    else if bytes_eq p.0 (codes "races") then option_map races (shadowing_in p.1)
     else if bytes_eq p.0 (codes "timeline") then option_map timeline (drawing_in p.1)
     else if bytes_eq p.0 (codes "profile") then option_map profile (profiling_in p.1)
     else if bytes_eq p.0 (codes "hunt") then option_map hunt (hunting_in p.1)

@@ -3,7 +3,7 @@ ghost use Rattle.std.specs.Prelude.{◌≡◌, ◌∷◌, [], IfOk, codes, false
 ghost use Rattle.std.specs.List.{list_all};
 ghost use Rattle.clap.specs.Words.{App, app_of, new_app, rule_of, with_rule, with_subcommand};
 ghost use Rattle.clap.specs.declared.builder.command.Command.TheViews.{out-Command};
-ghost use Rattle.ckrt_cli_words.specs.Commands.{app_with, bare_app, calls_app, check_app, ckrt_app, core_app, debug_app, drive_app, flag_rule, format_app, hunt_app, inspect_app, needed_rule, number_rule, option_rule, place_rule, profile_app, races_app, run_app, size_rule, stretch_app, timeline_app};
+ghost use Rattle.ckrt_cli_words.specs.Commands.{app_with, bare_app, calls_app, check_app, ckrt_app, core_app, debug_app, drive_app, flag_rule, format_app, hunt_app, inspect_app, needed_rule, number_rule, option_rule, place_rule, profile_app, races_app, run_app, shadow_app, size_rule, stretch_app, timeline_app};
 
 use clap::{Arg, ArgAction, Command, value_parser};
 use std::alloc::{AllocError, Global};
@@ -270,6 +270,36 @@ fn stretch_arguments<'a>(alloc: Global) -> Result<Vec<Arg<'a>>, AllocError>
     Ok(arguments)
 }
 
+/// How many bytes a shadow may take.
+fn shadow_room<'a>(alloc: Global) -> Arg<'a>
+    ensures rule { rule_of result ≡ place_rule (codes "memory") }
+    ensures local { result.global ≡ false }
+{
+    place(
+        alloc,
+        "memory",
+        "BYTES",
+        "Bytes that the shadow of the guest's memory may take, 1048576 or more; 2349096960 without it",
+    )
+}
+
+/// The words of a stretch that is looked at with a shadow.
+fn shadow_arguments<'a>(alloc: Global) -> Result<Vec<Arg<'a>>, AllocError>
+    ensures app { IfOk result (λ arguments. (named : App)
+        → fold with_rule named (map rule_of arguments.items) ≡ shadow_app named) }
+    ensures local { IfOk result (λ arguments. list_all (λ a. not a.global) arguments.items ≡ true) }
+{
+    let arguments = vec![in alloc;
+        needed(alloc, "disk", "DISK", "A disk that `format` made"),
+        beginning(alloc),
+        end(alloc),
+        latest(alloc),
+        names(alloc),
+        shadow_room(alloc),
+    ]?;
+    Ok(arguments)
+}
+
 /// `debug DISK [--at K]`.
 fn debug_command<'a>(alloc: Global) -> Result<Command<'a>, AllocError>
     ensures app { IfOk result (λ c. app_of c ≡ debug_app) }
@@ -301,12 +331,12 @@ fn debug_arguments<'a>(alloc: Global) -> Result<Vec<Arg<'a>>, AllocError>
     Ok(arguments)
 }
 
-/// `races DISK` with the options of a stretch.
+/// `races DISK` with the options of a stretch, and of a shadow.
 fn races_command<'a>(alloc: Global) -> Result<Command<'a>, AllocError>
     ensures app { IfOk result (λ c. app_of c ≡ races_app) }
     ensures local { IfOk result (λ c. (out-Command c).has_globals ≡ false) }
 {
-    let arguments = stretch_arguments(alloc)?;
+    let arguments = shadow_arguments(alloc)?;
     Command::new(alloc, "races")
         .about(
             "Tells the data races of a stopped guest, and changes nothing, as `ckrt races pi.disk`",
@@ -408,7 +438,7 @@ fn profile_arguments<'a>(alloc: Global) -> Result<Vec<Arg<'a>>, AllocError>
     Ok(arguments)
 }
 
-/// `hunt IMAGE` with its options: which seeds, on what machine, with what input, how long a run is, whether it is looked at for races, whether outputs tell outcomes apart, which rows its table has, where runs are kept, where its table is, how often it tells how far it is, and where names are.
+/// `hunt IMAGE` with its options: which seeds, on what machine, with what input, how long a run is, whether it is looked at for races and what that may take, whether outputs tell outcomes apart, which rows its table has, where runs are kept, where its table is, how often it tells how far it is, and where names are.
 fn hunt_command<'a>(alloc: Global) -> Result<Command<'a>, AllocError>
     ensures app { IfOk result (λ c. app_of c ≡ hunt_app) }
     ensures local { IfOk result (λ c. (out-Command c).has_globals ≡ false) }
@@ -470,6 +500,7 @@ fn hunt_arguments<'a>(alloc: Global) -> Result<Vec<Arg<'a>>, AllocError>
             "races",
             "Tell which accesses of two threads raced in some run, and in how many"
         ),
+        shadow_room(alloc),
         flag(
             alloc,
             "ignore-output",

@@ -23,7 +23,7 @@ pub enum Job<'a> {
     /// Serve what a disk holds to a debugger: `debug DISK`.
     Debug(DebugJob<'a>),
     /// Tell the data races of what a disk holds: `races DISK`.
-    Races(StretchJob<'a>),
+    Races(ShadowJob<'a>),
     /// Tell the errors of memory of what a disk holds: `check DISK`.
     Check(StretchJob<'a>),
     /// Draw what the threads of a disk did: `timeline DISK`.
@@ -82,6 +82,15 @@ pub struct StretchJob<'a> {
     pub to: Option<u64>,
     /// How many of its events are told, the last ones; all where this isn't given.
     pub last: Option<u64>,
+}
+
+/// Which stretch is looked at with a shadow of the guest's memory. The number of bytes is as it was given, and may be too small.
+#[derive(Clone, Copy, Debug, PartialEq, Eq)]
+pub struct ShadowJob<'a> {
+    /// Which stretch is looked at.
+    pub stretch: StretchJob<'a>,
+    /// How many bytes the shadow may take; this isn't given where it takes as many as by default.
+    pub memory: Option<u64>,
 }
 
 /// What `debug` serves.
@@ -143,6 +152,8 @@ pub struct HuntJob<'a> {
     pub steps: u32,
     /// Whether each run is looked at for races too.
     pub races: bool,
+    /// How many bytes the shadow of that look may take; this isn't given where it takes as many as by default.
+    pub memory: Option<u64>,
     /// Whether outcomes that differ in their output alone are one.
     pub ignore_output: bool,
     /// Whether each row of the table has lines.

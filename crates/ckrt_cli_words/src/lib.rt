@@ -15,6 +15,6 @@ mod read;
 
 pub use job::{
     CoreJob, DebugJob, DriveJob, FormatJob, HuntJob, InspectJob, Job, ProfileForm, ProfileJob,
-    Sizes, StretchJob, TimelineJob, WordsFault,
+    ShadowJob, Sizes, StretchJob, TimelineJob, WordsFault,
 };
 pub use read::{read_names, read_words};

@@ -1,11 +1,11 @@
 //! What the matches of a command line name.
 ghost use Rattle.std.specs.Prelude.{◌≡◌, codes, option_and_then, option_map};
 ghost use Rattle.clap.specs.Words.{first_of, found_of, rows_of, subcommand_rows_of};
-ghost use Rattle.ckrt_cli_words.specs.Jobs.{calls, check, core, core_making_in, core_making_of, debug, debugging_in, debugging_of, disk_stretch_in, disk_stretch_of, drawing_in, drawing_of, drive, driving_in, driving_of, flag_in, form_of, format, formatting_in, formatting_of, hunt, hunting_in, hunting_of, inspect, inspection_in, inspection_of, names_in, number_in, place_in, profile, profiling_in, profiling_of, races, request_in, request_of, run, sizes_in, timeline};
+ghost use Rattle.ckrt_cli_words.specs.Jobs.{calls, check, core, core_making_in, core_making_of, debug, debugging_in, debugging_of, disk_stretch_in, disk_stretch_of, drawing_in, drawing_of, drive, driving_in, driving_of, flag_in, form_of, format, formatting_in, formatting_of, hunt, hunting_in, hunting_of, inspect, inspection_in, inspection_of, names_in, number_in, place_in, profile, profiling_in, profiling_of, races, request_in, request_of, run, shadowing_in, shadowing_of, sizes_in, timeline};
 
 use crate::job::{
     CoreJob, DebugJob, DriveJob, FormatJob, HuntJob, InspectJob, Job, ProfileForm, ProfileJob,
-    Sizes, StretchJob, TimelineJob,
+    ShadowJob, Sizes, StretchJob, TimelineJob,
 };
 use clap::ArgMatches;
 
@@ -78,6 +78,16 @@ fn stretch<'a>(matches: &ArgMatches<'a>) -> Option<StretchJob<'a>>
     })
 }
 
+/// The stretch that was given, and how many bytes a shadow may take.
+fn shadowing<'a>(matches: &ArgMatches<'a>) -> Option<ShadowJob<'a>>
+    ensures { option_map shadowing_of result ≡ shadowing_in (rows_of (found_of matches.now)) }
+{
+    Some(ShadowJob {
+        stretch: stretch(matches)?,
+        memory: place(matches, "memory"),
+    })
+}
+
 /// What `debug` was given.
 fn debugging<'a>(matches: &ArgMatches<'a>) -> Option<DebugJob<'a>>
     ensures { option_map debugging_of result ≡ debugging_in (rows_of (found_of matches.now)) }
@@ -125,7 +135,7 @@ fn hunting<'a>(matches: &ArgMatches<'a>) -> Option<HuntJob<'a>>
 {
     let (seconds, progress) = (place(matches, "seconds"), place(matches, "progress"));
     let (input, keep) = (text(matches, "input"), text(matches, "keep"));
-    let table = text(matches, "table");
+    let (table, memory) = (text(matches, "table"), place(matches, "memory"));
     Some(HuntJob {
         image: text(matches, "image")?,
         seeds: text(matches, "seeds"),
@@ -135,6 +145,7 @@ fn hunting<'a>(matches: &ArgMatches<'a>) -> Option<HuntJob<'a>>
         input,
         steps: number(matches, "steps")?,
         races: flag(matches, "races"),
+        memory,
         ignore_output: flag(matches, "ignore-output"),
         all_rows: flag(matches, "rows"),
         keep,
@@ -256,9 +267,9 @@ fn debug_named<'a>(given: &ArgMatches<'a>) -> Option<Job<'a>>
 /// The job of `races` with these matches.
 fn races_named<'a>(given: &ArgMatches<'a>) -> Option<Job<'a>>
     ensures { option_map request_of result
-        ≡ option_map races (disk_stretch_in (rows_of (found_of given.now))) }
+        ≡ option_map races (shadowing_in (rows_of (found_of given.now))) }
 {
-    Some(Job::Races(stretch(given)?))
+    Some(Job::Races(shadowing(given)?))
 }
 
 /// The job of `check` with these matches.

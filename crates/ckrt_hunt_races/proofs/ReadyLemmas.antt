@@ -1,6 +1,6 @@
 -- All that looks at runs, ready for the next one.
 use Rattle.std.proofs.Common.{◌≡◌, ◌≤◌, ◌∙◌, ℕ, Bool, true, false, not, length, refl, ap, sym, subst}
-use Rattle.std.specs.Bool.{OnTrue}
+use Rattle.std.specs.Bool.{OnFalse, OnTrue}
 use Rattle.std.proofs.lemmas.List.{length-replicate}
 use Rattle.ckrt_machine.specs.Events.{Machine}
 use Rattle.ckrt_machine.specs.Steps.{State}
@@ -12,7 +12,7 @@ use Rattle.ckrt_hunt_schedules.specs.declared.plan.Plan.{Plan}
 use Rattle.ckrt_hunt_schedules.specs.Tallies.{Hunted, IsRoomFor, plan_in}
 use Rattle.ckrt_hunt_races.specs.declared.beginning.Beginning.{Beginning}
 use Rattle.ckrt_hunt_races.specs.Races.{Raced, with_run}
-use Rattle.ckrt_hunt_races.specs.RaceRuns.{HasBegun, HasGoneOn, HasRaces, IsBegun, IsLookedAt, IsPutAside, IsReady, Sees}
+use Rattle.ckrt_hunt_races.specs.RaceRuns.{FillsSlots, HasBegun, HasGoneOn, HasRaces, IsBegun, IsLookedAt, IsPutAside, IsReady, Sees}
 
 -- the room is that for the state of the machine
 pub room_at : (s : State) (b : Beginning) → IsBegun s b → IsRoomFor b.machine.state b.memory b.tables
@@ -23,14 +23,14 @@ pub has_begun : (s whole stepped : State) (d cleared : Detected) → whole ≡ s
 has_begun s whole stepped d cleared a b some holders words is = record {
   same = b ∙ sym a;
   harts = subst (λ (t : State). 1 ≤ t.tables.threads.hart_count) (sym a) some;
-  slots = d.slots.count;
   noted = is ∙ ap (λ n. fresh_within n (length d.watched.shadow) d.slots.count) holders ∙ ap (λ n. fresh_within HOLDERS n d.slots.count) words
-      ∙ ap (λ (t : State). fresh_within HOLDERS (words_of t) d.slots.count) (sym a);
+      ∙ ap (λ (t : State). fresh_within HOLDERS (words_of t) d.slots.count) (sym a)
+      ∙ ap (λ n. fresh_within HOLDERS (words_of whole) n) (sym (ap (λ (v : Detected). v.slots.count) is));
 }
 
 -- what a run has is noted as that of its seed
-pub looked : (h : Hunted) (seed : ℕ) (p : Plan) (s : State) (d : Detected) (old new : Raced) → p ≡ plan_in h seed → s ≡ h.start → Sees p s d → is_full d ≡ false → new ≡ with_run seed d.watched.found d.watched.orders old → IsLookedAt h seed old new
-looked h seed p s d old new plan start sees left noted = record {
+pub looked : (h : Hunted) (seed : ℕ) (p : Plan) (s : State) (slots : ℕ) (d : Detected) (old new : Raced) → p ≡ plan_in h seed → s ≡ h.start → Sees p s slots d → is_full d ≡ false → new ≡ with_run seed d.watched.found d.watched.orders old → IsLookedAt h seed old new
+looked h seed p s slots d old new plan start sees left noted = record {
   found = d.watched.found;
   orders = d.watched.orders;
   has = subst (λ (t : State). HasRaces (plan_in h seed) t d.watched.found d.watched.orders) start (subst (λ (q : Plan). HasRaces q s d.watched.found d.watched.orders) plan (sees.found left));
@@ -47,8 +47,8 @@ ready_first h whole stepped d s slots start a b is = record {
 }
 
 -- and all is ready again behind a run
-pub ready_again : (h : Hunted) (whole stepped : Beginning) (p : Plan) (s : State) (w : Detected) → s ≡ h.start → IsBegun h.start whole → IsBegun h.start stepped → Sees p s w → IsReady h whole stepped w
-ready_again h whole stepped p s w start a b sees = record {
+pub ready_again : (h : Hunted) (whole stepped : Beginning) (p : Plan) (s : State) (slots : ℕ) (w : Detected) → s ≡ h.start → IsBegun h.start whole → IsBegun h.start stepped → Sees p s slots w → IsReady h whole stepped w
+ready_again h whole stepped p s slots w start a b sees = record {
   whole = a;
   stepped = b;
   holders = sees.holders;
@@ -67,3 +67,14 @@ pub whole_then : (answer full : Bool) (P Q : Type 0) → answer ≡ not full →
 whole_then true false P Q e p on = on refl p
 whole_then true true P Q e p on = absurd (cc)
 whole_then false full P Q e p on = tt
+
+-- and where it was
+pub full_then : (answer full : Bool) (Q : Type 0) → answer ≡ not full → (full ≡ true → Q) → OnFalse answer Q
+full_then false true Q e on = on refl
+full_then false false Q e on = absurd (cc)
+full_then true full Q e on = tt
+
+-- a seed's run that fills the room
+pub filled : (h : Hunted) (seed : ℕ) (p : Plan) (s : State) (slots : ℕ) (d : Detected) → p ≡ plan_in h seed → s ≡ h.start → Sees p s slots d → is_full d ≡ true → FillsSlots (plan_in h seed) h.start slots
+filled h seed p s slots d plan start sees full =
+    subst (λ (t : State). FillsSlots (plan_in h seed) t slots) start (subst (λ (q : Plan). FillsSlots q s slots) plan (sees.fills full))

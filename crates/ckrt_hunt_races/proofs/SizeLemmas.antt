@@ -1,12 +1,13 @@
 -- What is noted keeps the sizes of a detector.
-use Rattle.std.proofs.Common.{◌≡◌, ◌∙◌, ℕ, Bool, true, false, List, [], ◌∷◌, length, slice_get, Option, Some, None, refl, sym, ap}
+use Rattle.std.proofs.Common.{◌≡◌, ◌∙◌, ◌+◌, ◌/◌, ℕ, zero, suc, nat_lt, Bool, true, false, List, [], ◌∷◌, length, slice_get, slice_set, Option, Some, None, refl, sym, ap}
+use Rattle.std.specs.Prelude.{if◌then◌else◌}
 use Rattle.std.proofs.lemmas.List.{length-set}
 use Rattle.ckrt_look_clocks.specs.declared.operation.Access.{Access}
 use Rattle.ckrt_look_clocks.specs.declared.operation.Operation.{Operation}
 use Rattle.ckrt_look_clocks.specs.declared.operation.Operation.TheVariants as operation
 use Rattle.ckrt_look_clocks.specs.declared.shadow.Cell.{Cell}
-use Rattle.ckrt_look_clocks.specs.Detection.{Watched, access_at, behind, clock_at, clock_of, joined, word_of}
-use Rattle.ckrt_look_clocks.specs.Parts.{Slots}
+use Rattle.ckrt_look_clocks.specs.Detection.{Watched, access_at, behind, clock_at, clock_of, few_words, joined, word_of}
+use Rattle.ckrt_look_clocks.specs.Parts.{Slots, has_slot, parts_over, taking, touched, touched_parts}
 use Rattle.ckrt_look_clocks.specs.Within.{Detected, is_full, noted_all, noted_one, noted_with, slots_for}
 use Rattle.ckrt_look_clocks.proofs.SufficeLemmas.{behind_size}
 use Rattle.ckrt_look_clocks.proofs.WithinLemmas.{noted_full, noted_open, within_none, within_some}
@@ -46,3 +47,36 @@ same_holders (o ∷ os) d = same_holders os (noted_one o d) ∙ kept_by (λ w. l
 pub same_words : (os : List Operation) (d : Detected) → length (noted_all os d).watched.shadow ≡ length d.watched.shadow
 same_words [] d = refl
 same_words (o ∷ os) d = same_words os (noted_one o d) ∙ kept_by (λ w. length w.shadow) behind_size o d
+
+-- and as many slots
+
+either_keeps : {X : Type 0} (P : X → Type 0) (t : Bool) (x y : X) → P x → P y → P (if t then x else y)
+either_keeps P true x y p q = p
+either_keeps P false x y p q = q
+
+taking_count : (part : ℕ) (s : Slots) → (taking part s).count ≡ s.count
+taking_count part s =
+    either_keeps (λ (t : Slots). t.count ≡ s.count) (nat_lt s.taken s.count) (record s { by_part = slice_set s.by_part part (Some s.taken); taken = s.taken + 1 }) (record s { is_full = true }) refl refl
+
+touched_count : (part : ℕ) (s : Slots) → (touched part s).count ≡ s.count
+touched_count part s = either_keeps (λ (t : Slots). t.count ≡ s.count) (has_slot part s) s (taking part s) refl (taking_count part s)
+
+parts_count : (n first : ℕ) (s : Slots) → (touched_parts n first s).count ≡ s.count
+parts_count zero first s = refl
+parts_count (suc n) first s = touched_count (first + n) (touched_parts n first s) ∙ parts_count n first s
+
+slots_count : (o : Operation) (w : Watched) (s : Slots) → (slots_for o w s).count ≡ s.count
+slots_count (operation.Access a) w s =
+    either_keeps (λ (t : Slots). t.count ≡ s.count) (nat_lt (word_of a) (length w.shadow)) (touched (word_of a / 1024) s) s (touched_count (word_of a / 1024) s) refl
+slots_count (operation.Pass from to p) w s = refl
+slots_count (operation.Lock k l) w s = refl
+slots_count (operation.Renew m) w s = parts_count (parts_over (few_words m w.shadow) m.first) (m.first / 1024) s
+
+one_count : (o : Operation) (d : Detected) → (noted_one o d).slots.count ≡ d.slots.count
+one_count o d =
+    let s = slots_for o d.watched d.slots in
+    either_keeps (λ (v : Detected). v.slots.count ≡ d.slots.count) (is_full d) d (noted_with s o d.watched) refl (slots_count o d.watched d.slots)
+
+pub same_slots : (os : List Operation) (d : Detected) → (noted_all os d).slots.count ≡ d.slots.count
+same_slots [] d = refl
+same_slots (o ∷ os) d = same_slots os (noted_one o d) ∙ one_count o d

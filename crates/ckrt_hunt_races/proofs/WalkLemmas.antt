@@ -24,7 +24,7 @@ use Rattle.ckrt_hunt_schedules.specs.Runs.{Point, beginning, next_at, on}
 use Rattle.ckrt_hunt_schedules.specs.Turns.{next, runner_of}
 use Rattle.ckrt_hunt_schedules.proofs.RunLemmas.{behind_on, scheduled_on}
 use Rattle.ckrt_hunt_races.specs.RaceRuns.{HasGoneOn, HasSeen, Sees}
-use Rattle.ckrt_hunt_races.proofs.SizeLemmas.{same_holders, same_words}
+use Rattle.ckrt_hunt_races.proofs.SizeLemmas.{same_holders, same_slots, same_words}
 
 -- the operations of one event more
 pub events_on : (k : ℕ) (es : List Event) (e : Event) (s : State) → of_events k (es ++ e ∷ []) s ≡ of_events k es s ++ of_event (k + length es) e (fold es s).state
@@ -65,7 +65,7 @@ gone_further a b c first second = record { harts = second.harts ∙ first.harts;
 
 module _ (p : Plan) where
   -- a run that begins
-  pub seen_first : (s : State) (d : Detected) (slots : ℕ) → d ≡ fresh_within HOLDERS (words_of s) slots → HasSeen p s nothing_made s d
+  pub seen_first : (s : State) (d : Detected) (slots : ℕ) → d ≡ fresh_within HOLDERS (words_of s) slots → HasSeen p s slots nothing_made s d
   seen_first s d slots is = record {
     events = [];
     scheduled = tt;
@@ -73,15 +73,14 @@ module _ (p : Plan) where
     point = refl;
     folded = refl;
     count = refl;
-    slots = slots;
     noted = is;
   }
 
   -- one event on
-  pub seen_next : (start : State) (m : Made) (s : State) (e : Event) (w : Detected) → HasSeen p start m s w → next p m s.tables ≡ Submit e → IsAccepted e s → HasSeen p start (made_with p (runner_of e s.tables) (step e s).answer m) (step e s).state (noted_all (of_event m.events e s) w)
-  seen_next start m s e w h n a =
+  pub seen_next : (start : State) (slots : ℕ) (m : Made) (s : State) (e : Event) (w : Detected) → HasSeen p start slots m s w → next p m s.tables ≡ Submit e → IsAccepted e s → HasSeen p start slots (made_with p (runner_of e s.tables) (step e s).answer m) (step e s).state (noted_all (of_event m.events e s) w)
+  seen_next start slots m s e w h n a =
       let es = h.events in
-      let f = fresh_within HOLDERS (words_of start) h.slots in
+      let f = fresh_within HOLDERS (words_of start) slots in
       let before = noted_all (of_events 0 es start) f in
       let count : m.events ≡ 0 + length es = omega (arith, h.count) in
       record {
@@ -91,7 +90,6 @@ module _ (p : Plan) where
         point = ap (λ (x : Point). on p e x) h.point ∙ sym (behind_on p es e (beginning start));
         folded = ap (λ (t : State). (step e t).state) h.folded ∙ sym (state_on es e start);
         count = counted p (runner_of e s.tables) (step e s).answer m ∙ ap (λ k. k + 1) h.count ∙ sym (one_longer es e);
-        slots = h.slots;
         noted = ap (λ (v : Detected). noted_all (of_event m.events e s) v) h.noted
             ∙ ap (λ k. noted_all (of_event k e s) before) count
             ∙ ap (λ (t : State). noted_all (of_event (0 + length es) e t) before) h.folded
@@ -100,18 +98,18 @@ module _ (p : Plan) where
       }
 
   -- the same of what the code has at hand
-  pub seen_on : (start : State) (m m' : Made) (s s' : State) (e : Event) (who : Option ℕ) (answer : Answer) (out : List ℕ) (w w' : Detected) → who ≡ runner_of e s.tables → m' ≡ made_with p who answer m → (let a : After = record { state = s'; answer = answer; output = out } in a) ≡ step e s → next p m s.tables ≡ Submit e → IsAccepted e s → w' ≡ noted_all (of_event m.events e s) w → HasSeen p start m s w → HasSeen p start m' s' w'
-  seen_on start m m' s s' e who answer out w w' is f r n a noted h =
+  pub seen_on : (start : State) (slots : ℕ) (m m' : Made) (s s' : State) (e : Event) (who : Option ℕ) (answer : Answer) (out : List ℕ) (w w' : Detected) → who ≡ runner_of e s.tables → m' ≡ made_with p who answer m → (let a : After = record { state = s'; answer = answer; output = out } in a) ≡ step e s → next p m s.tables ≡ Submit e → IsAccepted e s → w' ≡ noted_all (of_event m.events e s) w → HasSeen p start slots m s w → HasSeen p start slots m' s' w'
+  seen_on start slots m m' s s' e who answer out w w' is f r n a noted h =
       let answers : answer ≡ (step e s).answer = ap (λ (a : After). a.answer) r in
       let states : s' ≡ (step e s).state = ap (λ (a : After). a.state) r in
       let made : m' ≡ made_with p (runner_of e s.tables) (step e s).answer m = f ∙ ap (λ (o : Option ℕ). made_with p o answer m) is ∙ ap (λ (b : Answer). made_with p (runner_of e s.tables) b m) answers in
-      rw (made, states, noted) (seen_next start m s e w h n a)
+      rw (made, states, noted) (seen_next start slots m s e w h n a)
 
   -- a run that has come to its end
-  pub sees : (start : State) (m : Made) (s : State) (w : Detected) (ending : ScheduleEnd) → HasSeen p start m s w → next p m s.tables ≡ End ending → Sees p start w
-  sees start m s w ending h n =
+  pub sees : (start : State) (slots : ℕ) (m : Made) (s : State) (w : Detected) (ending : ScheduleEnd) → HasSeen p start slots m s w → next p m s.tables ≡ End ending → Sees p start slots w
+  sees start slots m s w ending h n =
       let es = h.events in
-      let f = fresh_within HOLDERS (words_of start) h.slots in
+      let f = fresh_within HOLDERS (words_of start) slots in
       record {
         found = λ left. record {
           events = es;
@@ -120,10 +118,19 @@ module _ (p : Plan) where
           ended = subst (λ (x : Point). next_at p x ≡ End ending) h.point n;
           accepted = h.accepted;
           is_found = ap (λ (v : Detected). v.watched.found) h.noted
-              ∙ ap (λ (v : Watched). v.found) (nothing_left_out HOLDERS (words_of start) h.slots (of_events 0 es start) (sym (ap is_full h.noted) ∙ left));
+              ∙ ap (λ (v : Watched). v.found) (nothing_left_out HOLDERS (words_of start) slots (of_events 0 es start) (sym (ap is_full h.noted) ∙ left));
           is_ordered = ap (λ (v : Detected). v.watched.orders) h.noted
-              ∙ ap (λ (v : Watched). v.orders) (nothing_left_out HOLDERS (words_of start) h.slots (of_events 0 es start) (sym (ap is_full h.noted) ∙ left));
+              ∙ ap (λ (v : Watched). v.orders) (nothing_left_out HOLDERS (words_of start) slots (of_events 0 es start) (sym (ap is_full h.noted) ∙ left));
         };
+        fills = λ full. record {
+          events = es;
+          ending = ending;
+          scheduled = h.scheduled;
+          ended = subst (λ (x : Point). next_at p x ≡ End ending) h.point n;
+          accepted = h.accepted;
+          full = sym (ap is_full h.noted) ∙ full;
+        };
+        same = ap (λ (v : Detected). v.slots.count) h.noted ∙ same_slots (of_events 0 es start) f;
         holders = ap (λ (v : Detected). length v.watched.clocks) h.noted ∙ same_holders (of_events 0 es start) f ∙ length-replicate HOLDERS no_clock;
         words = ap (λ (v : Detected). length v.watched.shadow) h.noted ∙ same_words (of_events 0 es start) f ∙ length-replicate (words_of start) no_accesses;
       }

@@ -1,5 +1,5 @@
 -- The races of a seed's run: those of the events that its schedule has, each accepted at its turn, from the beginning of the program.
-use Rattle.std.specs.Prelude.{◌≡◌, ◌≤◌, ℕ, zero, suc, ◌+◌, ◌-◌, false, List, length}
+use Rattle.std.specs.Prelude.{◌≡◌, ◌≤◌, ℕ, zero, suc, ◌+◌, ◌-◌, true, false, List, length}
 use Rattle.std.specs.List.{AllByRecursion}
 use Rattle.ckrt_events.specs.declared.event.Event.{Event}
 use Rattle.ckrt_calls.specs.WellFormed.{IsWellFormed}
@@ -15,7 +15,7 @@ use Rattle.ckrt_look_clocks.specs.Within.{Detected, fresh_within, is_full, noted
 use Rattle.ckrt_look_races.specs.CycleLaws.{TellsCycle}
 use Rattle.ckrt_look_races.specs.Holders.{HOLDERS}
 use Rattle.ckrt_look_races.specs.Laws.{history_of}
-use Rattle.ckrt_look_races.specs.Recorded.{found_by, orders_by, words_of}
+use Rattle.ckrt_look_races.specs.Recorded.{found_by, orders_by, slots_in, words_of}
 use Rattle.ckrt_look_races.specs.Steps.{of_events}
 use Rattle.ckrt_hunt_schedules.specs.Runs.{AreScheduled, Point, beginning, behind, next_at}
 use Rattle.ckrt_hunt_schedules.specs.Tallies.{Hunted, IsNoted, IsRoomFor, SeedComesTo, SeedEndsWith, plan_in}
@@ -45,6 +45,35 @@ pub record HasRaces (p : Plan) (start : State) (found : Found) (orders : Ordered
 -- those of a seed's run
 abbrev pub SeedHas : Hunted → (seed : ℕ) → Found → Ordered → Type 0
 SeedHas h seed found orders = HasRaces (plan_in h seed) h.start found orders
+
+-- WHAT IS HUNTED, in a room of so many slots for the shadow
+pub record RaceHunted : Type 0 where
+  pub hunt : Hunted
+  pub slots : ℕ
+
+-- in one of so many bytes
+abbrev pub hunted_within : (room : ℕ) → Hunted → RaceHunted
+hunted_within room h = record { hunt = h; slots = slots_in room (words_of h.start) }
+
+-- A run by this plan fills a room of so many slots: its events, up to the one that has none after it, touch a part more.
+pub record FillsSlots (p : Plan) (start : State) (slots : ℕ) : Type 0 where
+  pub events : List Event
+  pub ending : ScheduleEnd
+  pub scheduled : AreScheduled p events (beginning start)
+  pub ended : next_at p (behind p events (beginning start)) ≡ End ending
+  pub accepted : AllAccepted events start
+  pub full : is_full (noted_all (of_events 0 events start) (fresh_within HOLDERS (words_of start) slots)) ≡ true
+
+-- that of a seed does
+abbrev pub SeedFills : RaceHunted → (seed : ℕ) → Type 0
+SeedFills h seed = FillsSlots (plan_in h.hunt seed) h.hunt.start h.slots
+
+-- that of some seed of a range does
+pub record FillsSome (h : RaceHunted) (seeds : Seeds) : Type 0 where
+  pub seed : ℕ
+  pub first : seeds.first ≤ seed
+  pub last : seed ≤ seeds.last
+  pub fills : SeedFills h seed
 
 -- ONE SEED AFTER ANOTHER
 
@@ -80,19 +109,21 @@ pub record IsSeedNoted (h : Hunted) (seed : ℕ) (old new : Tally) : Type 0 wher
 -- THE WALK of a run, by two machines side by side
 
 -- so far it has come, and the detector has noted the operations of its events
-pub record HasSeen (p : Plan) (start : State) (m : Made) (s : State) (d : Detected) : Type 0 where
+pub record HasSeen (p : Plan) (start : State) (slots : ℕ) (m : Made) (s : State) (d : Detected)
+    : Type 0 where
   pub events : List Event
   pub scheduled : AreScheduled p events (beginning start)
   pub accepted : AllAccepted events start
   pub point : (let x : Point = record { made = m; state = s } in x) ≡ behind p events (beginning start)
   pub folded : s ≡ (fold events start).state
   pub count : m.events ≡ length events
-  pub slots : ℕ
   pub noted : d ≡ noted_all (of_events 0 events start) (fresh_within HOLDERS (words_of start) slots)
 
--- it has come to its end, and its races are known unless the room was used up
-pub record Sees (p : Plan) (start : State) (d : Detected) : Type 0 where
+-- it has come to its end, and its races and orders are known unless it fills the room
+pub record Sees (p : Plan) (start : State) (slots : ℕ) (d : Detected) : Type 0 where
   pub found : is_full d ≡ false → HasRaces p start d.watched.found d.watched.orders
+  pub fills : is_full d ≡ true → FillsSlots p start slots
+  pub same : d.slots.count ≡ slots
   pub holders : length d.watched.clocks ≡ HOLDERS
   pub words : length d.watched.shadow ≡ words_of start
 
@@ -105,8 +136,7 @@ pub record AreAlike (m : Made) (whole stepped : State) : Type 0 where
 pub record HasBegun (whole stepped : State) (d : Detected) : Type 0 where
   pub same : stepped ≡ whole
   pub harts : 1 ≤ whole.tables.threads.hart_count
-  pub slots : ℕ
-  pub noted : d ≡ fresh_within HOLDERS (words_of whole) slots
+  pub noted : d ≡ fresh_within HOLDERS (words_of whole) d.slots.count
 
 -- a machine went on: it has as many harts, and what changed of its memory is marked
 pub record HasGoneOn (old new : Machine) : Type 0 where

@@ -1,12 +1,12 @@
 //! A hunt from its image to its table, with the races of its runs where they are asked for.
-ghost use Rattle.std.specs.Prelude.{◌≡◌, ◌≢◌, ◌*◌, ◌-◌, ◌<◌, ◌↔◌, ◌++◌, length, true, IfErr, IfOk, IsErrOf, OnOk};
+ghost use Rattle.std.specs.Prelude.{◌≡◌, ◌≢◌, ◌⊎◌, ◌*◌, ◌-◌, ◌<◌, ◌↔◌, ◌++◌, length, true, IfErr, IfOk, IsErrOf, OnOk};
 ghost use Rattle.std.specs.Io.KnownBytes.{Appends};
-ghost use Rattle.ckrt_memory.specs.declared.MemoryError.TheVariants as memory;
 ghost use Rattle.ckrt_hunt_schedules.specs.Seeds.{IsEndedBy};
-ghost use Rattle.ckrt_hunt_schedules.specs.declared.telling.HuntFault.TheVariants as hunt;
+ghost use Rattle.ckrt_hunt_schedules.specs.declared.telling.HuntFault.TheVariants as fault;
 ghost use Rattle.ckrt_hunt_schedules.specs.Table.{table_text};
-ghost use Rattle.ckrt_hunt_schedules.specs.Tallies.{AreEmpty, IsRoom};
+ghost use Rattle.ckrt_hunt_schedules.specs.Tallies.{AreEmpty, IsRoom, hunted_of};
 ghost use Rattle.ckrt_hunt_races.specs.Races.{no_races, raced_in};
+ghost use Rattle.ckrt_hunt_races.specs.RaceRuns.{FillsSome, hunted_within};
 ghost use Rattle.ckrt_hunt_races.specs.Hunts.{IsCounted, IsHuntedWith, has_race, races_behind, told_text, verdict_on};
 
 use crate::hunt::RaceHunt;
@@ -16,7 +16,6 @@ use ckrt_hunt_schedules::{
     Asked, HuntDone, HuntFault, HuntOnlooker, Input, Outcomes, Tally, Verdict, hunt_and_tell,
     hunt_fault_of, write_table,
 };
-use ckrt_memory::MemoryError;
 use std::alloc::{AllocError, Global};
 use std::io;
 use std::io::Write;
@@ -65,21 +64,24 @@ fn nothing_counted(alloc: Global) -> Result<(Tally, Outcomes, RaceTally), AllocE
     Ok((tally, outcomes, races))
 }
 
-/// Runs the seeds of a program, and looks at each run for races. It fails where the room of the shadow is used up by a run.
+/// Runs the seeds of a program, and looks at each run for races.
 fn count_runs<O: HuntOnlooker>(
     alloc: Global,
     hunt: &mut RaceHunt<'_>,
     asked: &Asked<'_>,
     onlooker: &mut O,
-) -> Result<HuntTold, AllocError>
-    ensures counted { IfOk result (IsCounted hunt.old asked.now) }
+) -> Result<HuntTold, HuntFault>
+    ensures counted { IfOk result (IsCounted hunt.old.hunt asked.now) }
     ensures ended { IfOk result
         (λ told. IsEndedBy O.Answers asked.now.seeds asked.now.may_end told.done.seeds) }
+    ensures fault { IfErr result (λ e. (e ≡ fault.OutOfMemory) ⊎ (e ≡ fault.ShadowFull)) }
+    ensures full { IfErr result
+        (λ e. e ≡ fault.ShadowFull → FillsSome hunt.old asked.now.seeds) }
 {
     let (mut tally, mut outcomes, mut races) = nothing_counted(alloc)?;
     let run = hunt.note_seeds(&mut tally, &mut races, asked.seeds, asked.may_end, onlooker);
     let Some(seeds) = run else {
-        return Err(AllocError);
+        return Err(HuntFault::ShadowFull);
     };
     outcomes.take(&mut tally);
     onlooker.end_hunt(seeds, &outcomes);
@@ -100,19 +102,18 @@ fn count_all<O: HuntOnlooker>(
     hunt: RaceHunt<'_>,
     asked: &Asked<'_>,
     onlooker: &mut O,
-) -> Result<HuntTold, MemoryError>
-    ensures counted { IfOk result (IsCounted hunt.entry asked.now) }
+) -> Result<HuntTold, HuntFault>
+    ensures counted { IfOk result (IsCounted hunt.entry.hunt asked.now) }
     ensures ended { IfOk result
         (λ told. IsEndedBy O.Answers asked.now.seeds asked.now.may_end told.done.seeds) }
-    ensures fault { IfErr result (λ e. e ≡ memory.OutOfMemory) }
+    ensures fault { IfErr result (λ e. (e ≡ fault.OutOfMemory) ⊎ (e ≡ fault.ShadowFull)) }
+    ensures full { IfErr result
+        (λ e. e ≡ fault.ShadowFull → FillsSome hunt.entry asked.now.seeds) }
 {
     let mut hunt = hunt;
     let counted = count_runs(alloc, &mut hunt, asked, onlooker);
     give_back(hunt);
-    match counted {
-        Ok(told) => Ok(told),
-        Err(_) => Err(MemoryError::OutOfMemory),
-    }
+    counted
 }
 
 /// The same of a program that begins with this image, and is given this to read.
@@ -122,16 +123,20 @@ fn hunt_for_races<O: HuntOnlooker>(
     input: Input<'_>,
     asked: &Asked<'_>,
     onlooker: &mut O,
-) -> Result<HuntTold, MemoryError>
+) -> Result<HuntTold, HuntFault>
     ensures hunted { IfOk result (IsHuntedWith true image.now input.entry asked.now) }
     ensures ended { IfOk result
         (λ told. IsEndedBy O.Answers asked.now.seeds asked.now.may_end told.done.seeds) }
-    ensures too_long { IsErrOf result memory.ImageTooLong
+    ensures too_long { IsErrOf result fault.ImageTooLong
         ↔ (4096 * (asked.now.shape.pages - 1) < length image.now) }
+    ensures never { IfErr result (λ e. e ≢ fault.Write) }
+    ensures full { IfErr result (λ e. e ≡ fault.ShadowFull → FillsSome
+        (hunted_within asked.now.room (hunted_of image.now asked.now.shape input.entry))
+        asked.now.seeds) }
 {
-    match RaceHunt::new(alloc, image, asked.shape, input) {
+    match RaceHunt::new(alloc, image, asked.shape, input, asked.room) {
         Ok(hunt) => count_all(alloc, hunt, asked, onlooker),
-        Err(fault) => Err(fault),
+        Err(fault) => Err(hunt_fault_of(fault)),
     }
 }
 
@@ -176,13 +181,16 @@ fn hunt_and_tell_races<O: HuntOnlooker, W: Write>(
         (λ told. IsEndedBy O.Answers asked.now.seeds asked.now.may_end told.done.seeds) }
     ensures told { IfOk result (λ told.
         Appends (W.contents out.old) (W.contents out.new) (told_text asked.now told)) }
-    ensures too_long { IsErrOf result hunt.ImageTooLong
+    ensures too_long { IsErrOf result fault.ImageTooLong
         ↔ (4096 * (asked.now.shape.pages - 1) < length image.now) }
-    ensures unwritten { IfErr result (λ e. e ≢ hunt.Write → out.new ≡ out.old) }
+    ensures unwritten { IfErr result (λ e. e ≢ fault.Write → out.new ≡ out.old) }
+    ensures full { IfErr result (λ e. e ≡ fault.ShadowFull → FillsSome
+        (hunted_within asked.now.room (hunted_of image.now asked.now.shape input.entry))
+        asked.now.seeds) }
 {
     let told = match hunt_for_races(alloc, image, input, asked, onlooker) {
         Ok(told) => told,
-        Err(fault) => return Err(hunt_fault_of(fault)),
+        Err(fault) => return Err(fault),
     };
     let run = Asked {
         seeds: told.done.seeds,
@@ -201,8 +209,8 @@ fn hunt_and_tell_races<O: HuntOnlooker, W: Write>(
 ///
 /// # Errors
 ///
-/// `ImageTooLong` where the image has more bytes than the pages from page 1 on, and `OutOfMemory` where the allocator
-/// refuses the room or that of the shadow is used up by a run, before anything is written; `Write` where the writer failed.
+/// `ImageTooLong` where the image has more bytes than the pages from page 1 on, `OutOfMemory` where the allocator refuses the room, and
+/// `ShadowFull` where a run that is looked at fills the room of the shadow, before anything is written; `Write` where the writer failed.
 pub fn hunt_as_asked<O: HuntOnlooker, W: Write>(
     alloc: Global,
     image: &[u8],
@@ -217,9 +225,12 @@ pub fn hunt_as_asked<O: HuntOnlooker, W: Write>(
         (λ told. IsEndedBy O.Answers asked.now.seeds asked.now.may_end told.done.seeds) }
     ensures told { IfOk result (λ told.
         Appends (W.contents out.old) (W.contents out.new) (told_text asked.now told)) }
-    ensures too_long { IsErrOf result hunt.ImageTooLong
+    ensures too_long { IsErrOf result fault.ImageTooLong
         ↔ (4096 * (asked.now.shape.pages - 1) < length image.now) }
-    ensures unwritten { IfErr result (λ e. e ≢ hunt.Write → out.new ≡ out.old) }
+    ensures unwritten { IfErr result (λ e. e ≢ fault.Write → out.new ≡ out.old) }
+    ensures full { IfErr result (λ e. e ≡ fault.ShadowFull → FillsSome
+        (hunted_within asked.now.room (hunted_of image.now asked.now.shape input.entry))
+        asked.now.seeds) }
 {
     if asked.races {
         return hunt_and_tell_races(alloc, image, input, asked, onlooker, out);

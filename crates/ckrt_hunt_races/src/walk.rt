@@ -1,5 +1,5 @@
 //! A run of a seed, made by one machine, and step by step by another one.
-ghost use Rattle.std.specs.Prelude.{◌≡◌, ◌≤◌, ◌+◌};
+ghost use Rattle.std.specs.Prelude.{◌≡◌, ◌≤◌, ◌+◌, ℕ};
 ghost use Rattle.ckrt_machine.specs.Steps.{State};
 ghost use Rattle.ckrt_schedule.specs.declared.next.Next.TheVariants.{Submit};
 ghost use Rattle.ckrt_hunt_schedules.specs.Turns.{IsFit, next};
@@ -24,9 +24,9 @@ fn watch_next(
     requires scheduled { next plan.now made.old whole.old.state.tables ≡ Submit event.now }
     requires fit { IsFit plan.now made.old whole.old.state.tables event.now }
     requires alike { AreAlike made.old whole.old.state stepped.old.state }
-    ensures seen { (start : State)
-        → HasSeen plan.now start made.old whole.old.state detector.old
-        → HasSeen plan.now start made.new whole.new.state detector.new }
+    ensures seen { (start : State) (slots : ℕ)
+        → HasSeen plan.now start slots made.old whole.old.state detector.old
+        → HasSeen plan.now start slots made.new whole.new.state detector.new }
     ensures alike { AreAlike made.new whole.new.state stepped.new.state }
     ensures events { made.new.events ≡ made.old.events + 1 }
     ensures whole { HasGoneOn whole.old whole.new }
@@ -47,7 +47,7 @@ pub(crate) fn watch_run(
     detector: &mut Detector,
 )
     requires { HasBegun whole.old.state stepped.old.state detector.old }
-    ensures seen { Sees plan.now whole.old.state detector.new }
+    ensures seen { Sees plan.now whole.old.state detector.old.slots.count detector.new }
     ensures whole { HasGoneOn whole.old whole.new }
     ensures stepped { HasGoneOn stepped.old stepped.new }
 {

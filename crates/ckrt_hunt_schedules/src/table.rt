@@ -26,6 +26,8 @@ pub struct Asked<'a> {
     pub input: Option<&'a str>,
     /// Whether each run is looked at for races too.
     pub races: bool,
+    /// How many bytes the room of that look's shadow has.
+    pub room: u64,
     /// Whether each row of its table has lines.
     pub all_rows: bool,
 }

@@ -14,7 +14,7 @@ use crate::seeds::Seeds;
 use crate::table::{Asked, write_table};
 use crate::tally::Tally;
 use ckrt_memory::MemoryError;
-use std::alloc::Global;
+use std::alloc::{AllocError, Global};
 use std::io::Write;
 use thiserror::Error;
 
@@ -27,9 +27,22 @@ pub enum HuntFault {
     /// There was no memory for it.
     #[error("OutOfMemory")]
     OutOfMemory,
+    /// The shadow of a run that is looked at for races has no room left.
+    #[error("ShadowFull")]
+    ShadowFull,
     /// The writer failed.
     #[error("Write")]
     Write,
+}
+
+impl From<AllocError> for HuntFault {
+    ghost use Rattle.ckrt_hunt_schedules.specs.declared.telling.HuntFault.{HuntFault};
+
+    ghost from_gives = { λ _ e. e ≡ HuntFault.OutOfMemory };
+
+    fn from(_: AllocError) -> HuntFault {
+        HuntFault::OutOfMemory
+    }
 }
 
 /// What a hunt came to.
@@ -68,6 +81,7 @@ fn hunt_seeds<O: HuntOnlooker>(
 pub fn hunt_fault_of(fault: MemoryError) -> HuntFault
     ensures too_long { (result ≡ HuntFault.ImageTooLong) ↔ (fault ≡ memory.ImageTooLong) }
     ensures never { result ≢ HuntFault.Write }
+    ensures unshadowed { result ≢ HuntFault.ShadowFull }
 {
     match fault {
         MemoryError::ImageTooLong => HuntFault::ImageTooLong,
@@ -82,7 +96,7 @@ pub fn hunt_fault_of(fault: MemoryError) -> HuntFault
 /// # Errors
 ///
 /// `ImageTooLong` where the image has more bytes than the pages from page 1 on, and `OutOfMemory` where the allocator
-/// refuses the room, before anything is written; `Write` where the writer failed.
+/// refuses the room, before anything is written; `Write` where the writer failed. `ShadowFull` never.
 pub fn hunt_and_tell<O: HuntOnlooker, W: Write>(
     alloc: Global,
     image: &[u8],
@@ -99,6 +113,7 @@ pub fn hunt_and_tell<O: HuntOnlooker, W: Write>(
     ensures too_long { IsErrOf result HuntFault.ImageTooLong
         ↔ (4096 * (asked.now.shape.pages - 1) < length image.now) }
     ensures unwritten { IfErr result (λ e. e ≢ HuntFault.Write → out.new ≡ out.old) }
+    ensures unshadowed { IfErr result (λ e. e ≢ HuntFault.ShadowFull) }
 {
     let done = match hunt_seeds(alloc, image, input, asked, onlooker) {
         Ok(done) => done,

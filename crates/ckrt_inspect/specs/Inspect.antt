@@ -12,7 +12,7 @@ use Rattle.ckrt_stored.specs.Past.{HasPast}
 use Rattle.ckrt_stored.specs.declared.progress.Progress.{Progress}
 use Rattle.ckrt_stored.specs.Progress.{recovered_of}
 use Rattle.ckrt_inspect.specs.declared.fault.InspectFault.{InspectFault}
-use Rattle.ckrt_inspect.specs.declared.fault.InspectFault.TheVariants.{NotFormatted, Version, Damaged, Device, OutOfMemory, Write, Range}
+use Rattle.ckrt_inspect.specs.declared.fault.InspectFault.TheVariants.{NotFormatted, Version, Damaged, Device, OutOfMemory, ShadowFull, Write, Range}
 use Rattle.ckrt_inspect.specs.declared.shown.Shown.{Shown}
 use Rattle.ckrt_inspect.specs.Listing.{disk_listing}
 
@@ -42,7 +42,7 @@ pub record IsListed (shown : Shown) (image : List ℕ) (old new : Option (List �
       (disk_listing shown.with_code recovered.count recovered.state (note_of image)
       (schedule_of image))
 
--- what a fault says of the image; Device, OutOfMemory and Write say nothing of it
+-- what a fault says of the image; Device, OutOfMemory and Write say nothing of it, and no shadow is made
 abbrev pub IsFaultOf : Option ℕ → List ℕ → InspectFault → Type 0
 IsFaultOf at image NotFormatted = Recovers image (Err recover.NotFormatted)
 IsFaultOf at image Version = Recovers image (Err recover.Version)
@@ -51,6 +51,7 @@ IsFaultOf at image Range = HasNone at image
 IsFaultOf at image Device = Unit {0}
 IsFaultOf at image OutOfMemory = Unit {0}
 IsFaultOf at image Write = Unit {0}
+IsFaultOf at image ShadowFull = ⊥
 
 -- what was read of an image is what it recovers to, or what the fault says
 abbrev pub AgreesAt : Option ℕ → List ℕ → Result Progress InspectFault → Type 0
@@ -72,6 +73,7 @@ is_device (Err Damaged) = false
 is_device (Err Device) = true
 is_device (Err OutOfMemory) = false
 is_device (Err Write) = false
+is_device (Err ShadowFull) = false
 is_device (Err Range) = false
 
 -- The disk that was handed in was only read, and is gone; what was answered and written is what its content tells, if it was honest to its end.

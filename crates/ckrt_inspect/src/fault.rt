@@ -24,6 +24,9 @@ pub enum InspectFault {
     /// The writer failed.
     #[error("Write")]
     Write,
+    /// The shadow of a look at its events has no room left.
+    #[error("ShadowFull")]
+    ShadowFull,
     /// The disk recovers, but it has no state any more after that many events, or not yet.
     #[error("Range")]
     Range,

@@ -15,7 +15,7 @@ use Rattle.ckrt_look_recording.proofs.RecordedLemmas.{recorded_leads}
 use Rattle.ckrt_look_recording.proofs.WayLemmas.{accepted_behind, accepted_first}
 use Rattle.ckrt_inspect.specs.Inspect.{is_device, of_recovery}
 use Rattle.ckrt_inspect.specs.declared.fault.InspectFault.{InspectFault}
-use Rattle.ckrt_inspect.specs.declared.fault.InspectFault.TheVariants.{NotFormatted, Version, Damaged, Device, OutOfMemory, Write, Range}
+use Rattle.ckrt_inspect.specs.declared.fault.InspectFault.TheVariants.{NotFormatted, Version, Damaged, Device, OutOfMemory, ShadowFull, Write, Range}
 use Rattle.ckrt_look_calls.specs.declared.stretch.Stretch.{Stretch}
 use Rattle.ckrt_look_calls.specs.Stretches.{Account, IsEventsFault, IsFaultOf, IsReachFault, IsReached, IsWithin, RecordsTo, TellsStretch, Writes, before_of, events_of, begin_in, begin_of, from_of, last_of, lately, state_of, to_of}
 use Rattle.ckrt_look_calls.proofs.AppendLemmas.{appends_kept}
@@ -78,38 +78,45 @@ accepted_in s r all =
     accepted_first (to_of s (last_of r) - begin_in s r) (drop from r.events) (state_of s r) (accepted_behind from r.events r.start all)
 
 -- a fault of going to the stretch is one of the image
-pub fault_of_reaching : (s : Stretch) (image : List ℕ) (r : Recorded) (f : InspectFault) → RecordsTo s.to image (Ok r) → IsReachFault s r f → IsFaultOf s image f
-fault_of_reaching s image r Range has fault = record { recorded = r; has = recorded_to s.to image r has fault.1; outside = fault.0 }
-fault_of_reaching s image r Damaged has refused = damaged_to s.to image r has refused
-fault_of_reaching s image r NotFormatted has fault = absurd fault
-fault_of_reaching s image r Version has fault = absurd fault
-fault_of_reaching s image r Device has fault = absurd fault
-fault_of_reaching s image r OutOfMemory has fault = absurd fault
-fault_of_reaching s image r Write has fault = absurd fault
+pub fault_of_reaching : (a : Account) (s : Stretch) (image : List ℕ) (r : Recorded) (f : InspectFault) → RecordsTo s.to image (Ok r) → IsReachFault s r f → IsFaultOf a s image f
+fault_of_reaching a s image r Range has fault = record { recorded = r; has = recorded_to s.to image r has fault.1; outside = fault.0 }
+fault_of_reaching a s image r Damaged has refused = damaged_to s.to image r has refused
+fault_of_reaching a s image r NotFormatted has fault = absurd fault
+fault_of_reaching a s image r Version has fault = absurd fault
+fault_of_reaching a s image r Device has fault = absurd fault
+fault_of_reaching a s image r OutOfMemory has fault = absurd fault
+fault_of_reaching a s image r Write has fault = absurd fault
+fault_of_reaching a s image r ShadowFull has fault = absurd fault
 
 -- one of its events is, too
-fault_of_events : (s : Stretch) (image : List ℕ) (r : Recorded) (es : List Event) (z : State) (f : InspectFault) → RecordsTo s.to image (Ok r) → es ≡ events_of s r → z ≡ state_of s r → IsEventsFault es z f → IsFaultOf s image f
-fault_of_events s image r es z Damaged has events state refused =
-    damaged_to s.to image r has (λ all. refused (subst (λ (y : State). AllAccepted es y) (sym state) (subst (λ (l : List Event). AllAccepted l (state_of s r)) (sym events) (accepted_in s r all))))
-fault_of_events s image r es z OutOfMemory has events state fault = tt
-fault_of_events s image r es z Write has events state fault = tt
-fault_of_events s image r es z NotFormatted has events state fault = absurd fault
-fault_of_events s image r es z Version has events state fault = absurd fault
-fault_of_events s image r es z Device has events state fault = absurd fault
-fault_of_events s image r es z Range has events state fault = absurd fault
+fault_of_events : (a : Account) (s : Stretch) (image : List ℕ) (r : Recorded) (k : ℕ) (es : List Event) (z : State) (f : InspectFault) → RecordsTo s.to image (Ok r) → IsReached s r k es z → IsEventsFault (a.Fills k es z) es z f → IsFaultOf a s image f
+fault_of_events a s image r k es z Damaged has is refused =
+    damaged_to s.to image r has (λ all. refused (subst (λ (y : State). AllAccepted es y) (sym is.state) (subst (λ (l : List Event). AllAccepted l (state_of s r)) (sym is.events) (accepted_in s r all))))
+fault_of_events a s image r k es z ShadowFull has is fills = record {
+  recorded = r;
+  has = has;
+  within = is.within;
+  fills = subst (λ n. a.Fills n (events_of s r) (state_of s r)) is.first (subst (λ (l : List Event). a.Fills k l (state_of s r)) is.events (subst (λ (y : State). a.Fills k es y) is.state fills));
+}
+fault_of_events a s image r k es z OutOfMemory has is fault = tt
+fault_of_events a s image r k es z Write has is fault = tt
+fault_of_events a s image r k es z NotFormatted has is fault = absurd fault
+fault_of_events a s image r k es z Version has is fault = absurd fault
+fault_of_events a s image r k es z Device has is fault = absurd fault
+fault_of_events a s image r k es z Range has is fault = absurd fault
 
 -- a fault of the reading is one of the image
-pub fault_of_reading : (s : Stretch) (to : Option ℕ) (image : List ℕ) (fault : RecoverFault) → AgreesOnFault fault (RecordsTo to image) → IsFaultOf s image (of_recovery fault)
-fault_of_reading s (Some to) image recover.NotFormatted is = is
-fault_of_reading s (Some to) image recover.Version is = is
-fault_of_reading s (Some to) image recover.Damaged is = is
-fault_of_reading s (Some to) image recover.Device is = tt
-fault_of_reading s (Some to) image recover.OutOfMemory is = tt
-fault_of_reading s None image recover.NotFormatted is = is
-fault_of_reading s None image recover.Version is = is
-fault_of_reading s None image recover.Damaged is = is
-fault_of_reading s None image recover.Device is = tt
-fault_of_reading s None image recover.OutOfMemory is = tt
+pub fault_of_reading : (a : Account) (s : Stretch) (to : Option ℕ) (image : List ℕ) (fault : RecoverFault) → AgreesOnFault fault (RecordsTo to image) → IsFaultOf a s image (of_recovery fault)
+fault_of_reading a s (Some to) image recover.NotFormatted is = is
+fault_of_reading a s (Some to) image recover.Version is = is
+fault_of_reading a s (Some to) image recover.Damaged is = is
+fault_of_reading a s (Some to) image recover.Device is = tt
+fault_of_reading a s (Some to) image recover.OutOfMemory is = tt
+fault_of_reading a s None image recover.NotFormatted is = is
+fault_of_reading a s None image recover.Version is = is
+fault_of_reading a s None image recover.Damaged is = is
+fault_of_reading a s None image recover.Device is = tt
+fault_of_reading a s None image recover.OutOfMemory is = tt
 
 -- none but that of the reading is the disk's
 pub reach_no_device : {X : Type 0} (s : Stretch) (r : Recorded) (result : Result X InspectFault) → IfErr result (IsReachFault s r) → is_device result ≡ false
@@ -121,16 +128,18 @@ reach_no_device s r (Err Version) fault = absurd fault
 reach_no_device s r (Err Device) fault = absurd fault
 reach_no_device s r (Err OutOfMemory) fault = absurd fault
 reach_no_device s r (Err Write) fault = absurd fault
+reach_no_device s r (Err ShadowFull) fault = absurd fault
 
-pub events_no_device : (es : List Event) (z : State) (result : Result (Unit {0}) InspectFault) → IfErr result (IsEventsFault es z) → is_device result ≡ false
-events_no_device es z (Ok done) fault = refl
-events_no_device es z (Err Damaged) fault = refl
-events_no_device es z (Err OutOfMemory) fault = refl
-events_no_device es z (Err Write) fault = refl
-events_no_device es z (Err NotFormatted) fault = absurd fault
-events_no_device es z (Err Version) fault = absurd fault
-events_no_device es z (Err Device) fault = absurd fault
-events_no_device es z (Err Range) fault = absurd fault
+pub events_no_device : (Fills : Type 0) (es : List Event) (z : State) (result : Result (Unit {0}) InspectFault) → IfErr result (IsEventsFault Fills es z) → is_device result ≡ false
+events_no_device Fills es z (Ok done) fault = refl
+events_no_device Fills es z (Err Damaged) fault = refl
+events_no_device Fills es z (Err OutOfMemory) fault = refl
+events_no_device Fills es z (Err Write) fault = refl
+events_no_device Fills es z (Err ShadowFull) fault = refl
+events_no_device Fills es z (Err NotFormatted) fault = absurd fault
+events_no_device Fills es z (Err Version) fault = absurd fault
+events_no_device Fills es z (Err Device) fault = absurd fault
+events_no_device Fills es z (Err Range) fault = absurd fault
 
 -- WHAT IS TOLD
 
@@ -144,15 +153,15 @@ pub writes_kept : (IsText : List ℕ → Type 0) (a b c : Option (List ℕ)) →
 writes_kept IsText a b c writes kept = record { text = writes.text; is = writes.is; written = appends_kept a b c writes.text writes.written kept }
 
 -- what was told of a stretch of a recording is told of the image that has it
-pub told_of_image : (Tells : Account) (s : Stretch) (image : List ℕ) (old new : Option (List ℕ)) (r : Recorded) (k : ℕ) (es : List Event) (z : State) (result : Result (Unit {0}) InspectFault) → RecordsTo s.to image (Ok r) → IsReached s r k es z
-    → OnOk result (Writes (Tells k es z) old new) → OnOk result (AllAccepted es z) → IfErr result (IsEventsFault es z) → TellsStretch Tells s image old new result
-told_of_image Tells s image old new r k es z (Ok done) has is told accepted fault = record {
+pub told_of_image : (a : Account) (s : Stretch) (image : List ℕ) (old new : Option (List ℕ)) (r : Recorded) (k : ℕ) (es : List Event) (z : State) (result : Result (Unit {0}) InspectFault) → RecordsTo s.to image (Ok r) → IsReached s r k es z
+    → OnOk result (Writes (a.IsText k es z) old new) → OnOk result (AllAccepted es z) → IfErr result (IsEventsFault (a.Fills k es z) es z) → TellsStretch a s image old new result
+told_of_image a s image old new r k es z (Ok done) has is told accepted fault = record {
   recorded = r;
   has = recorded_to s.to image r has (λ none. all_made s r none is.within is.before
       (subst (λ (y : State). AllAccepted (events_of s r) y) is.state (subst (λ (l : List Event). AllAccepted l z) is.events accepted)));
   within = is.within;
   writes =
-      subst (λ n. Writes (Tells n (events_of s r) (state_of s r)) old new) is.first
-      (subst (λ (l : List Event). Writes (Tells k l (state_of s r)) old new) is.events (subst (λ (y : State). Writes (Tells k es y) old new) is.state told));
+      subst (λ n. Writes (a.IsText n (events_of s r) (state_of s r)) old new) is.first
+      (subst (λ (l : List Event). Writes (a.IsText k l (state_of s r)) old new) is.events (subst (λ (y : State). Writes (a.IsText k es y) old new) is.state told));
 }
-told_of_image Tells s image old new r k es z (Err f) has is told accepted fault = fault_of_events s image r es z f has is.events is.state fault
+told_of_image a s image old new r k es z (Err f) has is told accepted fault = fault_of_events a s image r k es z f has is fault

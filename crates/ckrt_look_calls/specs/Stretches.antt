@@ -10,7 +10,7 @@ use Rattle.ckrt_stored.specs.declared.fault.RecoverFault.{RecoverFault}
 use Rattle.ckrt_look_recording.specs.Reading.{RecordsUnreplayed}
 use Rattle.ckrt_look_recording.specs.Recording.{HasRecording, Recorded, Records}
 use Rattle.ckrt_inspect.specs.declared.fault.InspectFault.{InspectFault}
-use Rattle.ckrt_inspect.specs.declared.fault.InspectFault.TheVariants.{NotFormatted, Version, Damaged, Device, OutOfMemory, Write, Range}
+use Rattle.ckrt_inspect.specs.declared.fault.InspectFault.TheVariants.{NotFormatted, Version, Damaged, Device, OutOfMemory, ShadowFull, Write, Range}
 use Rattle.ckrt_look_calls.specs.declared.stretch.Stretch.{Stretch}
 
 -- A STRETCH OF WHAT WAS RECORDED, which is behind `first` events and ends with the one that is the `last`th
@@ -85,18 +85,24 @@ IsReachFault s r Range =
 IsReachFault s r Damaged = AllAccepted r.events r.start → ⊥
 IsReachFault s r _ = ⊥
 
--- why nothing is told of events: not each of them is accepted at its turn, or the memory or the writer failed
-abbrev pub IsEventsFault : List Event → State → InspectFault → Type 0
-IsEventsFault es s Damaged = AllAccepted es s → ⊥
-IsEventsFault es s OutOfMemory = Unit {0}
-IsEventsFault es s Write = Unit {0}
-IsEventsFault es s _ = ⊥
+-- why nothing is told of events: not each of them is accepted at its turn, they fill the room of a shadow, or the memory or the writer failed
+abbrev pub IsEventsFault : (Fills : Type 0) → List Event → State → InspectFault → Type 0
+IsEventsFault Fills es s Damaged = AllAccepted es s → ⊥
+IsEventsFault Fills es s ShadowFull = Fills
+IsEventsFault Fills es s OutOfMemory = Unit {0}
+IsEventsFault Fills es s Write = Unit {0}
+IsEventsFault Fills es s _ = ⊥
 
 -- WHAT IS TOLD
 
--- which text tells of events that are behind k others, from this state on
-abbrev pub Account : Type 1
-Account = (k : ℕ) → List Event → State → (text : List ℕ) → Type 0
+-- of events that are behind k others, from this state on: which text tells of them, and whether they fill the room of a shadow
+pub record Account : Type 1 where
+  pub IsText : (k : ℕ) → List Event → State → (text : List ℕ) → Type 0
+  pub Fills : (k : ℕ) → List Event → State → Type 0
+
+-- by a look that has no shadow
+abbrev pub account : ((k : ℕ) → List Event → State → (text : List ℕ) → Type 0) → Account
+account IsText = record { IsText = IsText; Fills = λ k es s. ⊥ }
 
 -- such a text was written
 pub record Writes (IsText : List ℕ → Type 0) (old new : Option (List ℕ)) : Type 0 where
@@ -105,12 +111,12 @@ pub record Writes (IsText : List ℕ → Type 0) (old new : Option (List ℕ)) :
   pub written : Appends old new text
 
 -- that of a stretch of what an image has recorded
-pub record IsTold (Tells : Account) (s : Stretch) (image : List ℕ) (old new : Option (List ℕ))
+pub record IsTold (a : Account) (s : Stretch) (image : List ℕ) (old new : Option (List ℕ))
     : Type 0 where
   pub recorded : Recorded
   pub has : HasRecording image recorded
   pub within : IsWithin s recorded.first (last_of recorded)
-  pub writes : Writes (Tells (begin_in s recorded) (events_of s recorded) (state_of s recorded)) old new
+  pub writes : Writes (a.IsText (begin_in s recorded) (events_of s recorded) (state_of s recorded)) old new
 
 -- the image has something recorded, but not all of the stretch
 pub record IsOutside (s : Stretch) (image : List ℕ) : Type 0 where
@@ -118,18 +124,26 @@ pub record IsOutside (s : Stretch) (image : List ℕ) : Type 0 where
   pub has : HasRecording image recorded
   pub outside : IsWithin s recorded.first (last_of recorded) → ⊥
 
+-- the stretch of what the image has recorded fills the room of the shadow
+pub record IsFilling (a : Account) (s : Stretch) (image : List ℕ) : Type 0 where
+  pub recorded : Recorded
+  pub has : RecordsTo s.to image (Ok recorded)
+  pub within : IsWithin s recorded.first (last_of recorded)
+  pub fills : a.Fills (begin_in s recorded) (events_of s recorded) (state_of s recorded)
+
 -- what a fault says of the image; Device, OutOfMemory and Write say nothing of it
-abbrev pub IsFaultOf : Stretch → List ℕ → InspectFault → Type 0
-IsFaultOf s image NotFormatted = Recovers image (Err recover.NotFormatted)
-IsFaultOf s image Version = Recovers image (Err recover.Version)
-IsFaultOf s image Damaged = Recovers image (Err recover.Damaged)
-IsFaultOf s image Range = IsOutside s image
-IsFaultOf s image Device = Unit {0}
-IsFaultOf s image OutOfMemory = Unit {0}
-IsFaultOf s image Write = Unit {0}
+abbrev pub IsFaultOf : Account → Stretch → List ℕ → InspectFault → Type 0
+IsFaultOf a s image NotFormatted = Recovers image (Err recover.NotFormatted)
+IsFaultOf a s image Version = Recovers image (Err recover.Version)
+IsFaultOf a s image Damaged = Recovers image (Err recover.Damaged)
+IsFaultOf a s image Range = IsOutside s image
+IsFaultOf a s image Device = Unit {0}
+IsFaultOf a s image OutOfMemory = Unit {0}
+IsFaultOf a s image Write = Unit {0}
+IsFaultOf a s image ShadowFull = IsFilling a s image
 
 -- what was told of a stretch of an image, or the fault
 abbrev pub TellsStretch : Account → Stretch → (image : List ℕ) → (old new : Option (List ℕ))
     → Result (Unit {0}) InspectFault → Type 0
-TellsStretch Tells s image old new (Ok done) = IsTold Tells s image old new
-TellsStretch Tells s image old new (Err f) = IsFaultOf s image f
+TellsStretch a s image old new (Ok done) = IsTold a s image old new
+TellsStretch a s image old new (Err f) = IsFaultOf a s image f

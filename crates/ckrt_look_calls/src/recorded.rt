@@ -6,7 +6,7 @@ ghost use Rattle.ckrt_machine.specs.Events.{AllAccepted, refusal_of, step};
 ghost use Rattle.ckrt_inspect.specs.declared.fault.InspectFault.TheVariants.{OutOfMemory, Write as Writing};
 ghost use Rattle.ckrt_look_calls.specs.Events.{event_lines};
 ghost use Rattle.ckrt_look_calls.specs.Recorded.{AreLines, lines_from};
-ghost use Rattle.ckrt_look_calls.specs.Stretches.{IsEventsFault};
+ghost use Rattle.ckrt_look_calls.specs.Stretches.{IsEventsFault, account};
 
 use crate::events::trace_event;
 use crate::stretch::Telling;
@@ -56,7 +56,7 @@ fn write_events<W: Write>(
         (Appends (W.contents out.old) (W.contents out.new)
         (lines_from count events.now machine.old.state)) }
     ensures accepted { OnOk result (AllAccepted events.now machine.old.state) }
-    ensures fault { IfErr result (IsEventsFault events.now machine.old.state) }
+    ensures fault { IfErr result (IsEventsFault ⊥ events.now machine.old.state) }
 {
     let mut text = Vec::new(alloc);
     let mut done = count;
@@ -76,7 +76,7 @@ fn write_events<W: Write>(
 pub struct Calls;
 
 impl Telling for Calls {
-    ghost Tells = { λ _. AreLines };
+    ghost Tells = { λ _. account AreLines };
 
     fn tell<W: Write>(
         &self,

@@ -33,7 +33,7 @@ pub struct Stretch {
 pub trait Telling {
     ghost use Rattle.ckrt_look_calls.specs.Stretches.{Account};
 
-    /// Which text tells of events that are behind so many others.
+    /// Which text tells of events that are behind so many others, and whether they fill the room of its shadow.
     ghost Tells: { Self → Account };
 
     /// Makes events, each of which is to be accepted at its turn, and tells them. The first is behind `count` others. A text that is
@@ -41,7 +41,8 @@ pub trait Telling {
     ///
     /// # Errors
     ///
-    /// `Damaged` where an event isn't accepted at its turn, `OutOfMemory` where a growth was refused, `Write` where the writer failed.
+    /// `Damaged` where an event isn't accepted at its turn, `ShadowFull` where the events fill the room of its shadow, `OutOfMemory` where a
+    /// growth was refused, `Write` where the writer failed.
     fn tell<W: Write>(
         &self,
         alloc: Global,
@@ -52,10 +53,12 @@ pub trait Telling {
     ) -> Result<(), InspectFault>
         requires few { count + length events.now < 2 ^ 64 }
         ensures told { OnOk result
-            (Writes (Tells self.now count events.now machine.old.state) (W.contents out.old)
-            (W.contents out.new)) }
+            (Writes ((Tells self.now).IsText count events.now machine.old.state)
+            (W.contents out.old) (W.contents out.new)) }
         ensures accepted { OnOk result (AllAccepted events.now machine.old.state) }
-        ensures fault { IfErr result (IsEventsFault events.now machine.old.state) };
+        ensures fault { IfErr result
+            (IsEventsFault ((Tells self.now).Fills count events.now machine.old.state) events.now
+            machine.old.state) };
 }
 
 /// Behind how many events the last so many begin.
@@ -148,10 +151,12 @@ fn tell_flushed<T: Telling, W: Write>(
 ) -> Result<(), InspectFault>
     requires few { count + length events.now < 2 ^ 64 }
     ensures told { OnOk result
-        (Writes (T.Tells telling.now count events.now machine.old.state) (W.contents out.old)
-        (W.contents out.new)) }
+        (Writes ((T.Tells telling.now).IsText count events.now machine.old.state)
+        (W.contents out.old) (W.contents out.new)) }
     ensures accepted { OnOk result (AllAccepted events.now machine.old.state) }
-    ensures fault { IfErr result (IsEventsFault events.now machine.old.state) }
+    ensures fault { IfErr result
+        (IsEventsFault ((T.Tells telling.now).Fills count events.now machine.old.state) events.now
+        machine.old.state) }
 {
     telling.tell(alloc, machine, count, events, out)?;
     match out.flush() {
@@ -180,8 +185,8 @@ fn read_to<D: Disk>(alloc: Global, disk: &mut D, to: Option<u64>) -> Result<Reco
 /// # Errors
 ///
 /// `NotFormatted`, `Version` and `Damaged` where the content recovers to no state, the first that applies; `Range` where the disk
-/// hasn't recorded all of the stretch, or that ends before it begins; `Device` where the disk failed a read, `OutOfMemory` where a growth was
-/// refused, `Write` where the writer failed.
+/// hasn't recorded all of the stretch, or that ends before it begins; `ShadowFull` where it fills the room of a shadow; `Device` where the disk
+/// failed a read, `OutOfMemory` where a growth was refused, `Write` where the writer failed.
 pub fn tell_stretch<D: Disk, T: Telling, W: Write>(
     alloc: Global,
     disk: &mut D,

@@ -143,7 +143,7 @@ pub fn write_errors<W: Write>(
         (Appends (W.contents out.old) (W.contents out.new)
         (errors_text rules.now count events.now machine.old.state)) }
     ensures accepted { OnOk result (AllAccepted events.now machine.old.state) }
-    ensures fault { IfErr result (IsEventsFault events.now machine.old.state) }
+    ensures fault { IfErr result (IsEventsFault ⊥ events.now machine.old.state) }
 {
     let Ok(mut shadow) = shadow_for(alloc, machine, count) else {
         return Err(InspectFault::OutOfMemory);

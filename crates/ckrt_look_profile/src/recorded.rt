@@ -64,7 +64,7 @@ pub fn write_profile<W: Write>(
         (Appends (W.contents out.old) (W.contents out.new)
         (text_of form events.now machine.old.state)) }
     ensures accepted { OnOk result (AllAccepted events.now machine.old.state) }
-    ensures fault { IfErr result (IsEventsFault events.now machine.old.state) }
+    ensures fault { IfErr result (IsEventsFault ⊥ events.now machine.old.state) }
 {
     let Ok(mut counts) = Counts::new(alloc) else {
         return Err(InspectFault::OutOfMemory);

@@ -1,10 +1,11 @@
 -- Operations that are noted one behind another.
-use Rattle.std.proofs.Common.{◌≡◌, ◌≤◌, ◌<◌, ℕ, ◌+◌, List, [], ◌∷◌, ◌++◌, length, take, get_or, refl, sym, ap, ◌∙◌}
+use Rattle.std.proofs.Common.{◌≡◌, ◌≤◌, ◌<◌, ℕ, ◌+◌, Bool, true, false, List, [], ◌∷◌, ◌++◌, length, take, get_or, refl, sym, ap, ◌∙◌, true≢false}
 use Rattle.std.proofs.lemmas.List.{append-nil, take_all, take_more}
 use Rattle.std.proofs.lemmas.Grind.{flat_map-append}
 use Rattle.std.specs.List.{flat_map}
 use Rattle.ckrt_look_clocks.specs.declared.operation.Operation.{Operation}
-use Rattle.ckrt_look_clocks.specs.Within.{Detected, noted_all, noted_one}
+use Rattle.ckrt_look_clocks.specs.Within.{Detected, is_full, noted_all, noted_one}
+use Rattle.ckrt_look_clocks.proofs.WithinLemmas.{open_all}
 
 -- two pieces
 pub behind_both : (xs ys : List Operation) (w : Detected) → noted_all (xs ++ ys) w ≡ noted_all ys (noted_all xs w)
@@ -28,3 +29,11 @@ behind_each each xs i w le = ap (λ l. noted_all (flat_map each l) w) (take_all 
 pub behind_on : {X : Type 0} (each : X → List Operation) (xs : List X) (i : ℕ) (d : X) (w now new : Detected) → i < length xs → now ≡ noted_all (flat_map each (take i xs)) w
     → new ≡ noted_all (each (get_or xs i d)) now → new ≡ noted_all (flat_map each (take (i + 1) xs)) w
 behind_on each xs i d w now new lt so_far is = is ∙ ap (λ (v : Detected). noted_all (each (get_or xs i d)) v) so_far ∙ sym (behind_more each xs i d w lt)
+
+-- a room that is used up stays so
+pub full_stays : (os : List Operation) (d : Detected) → is_full d ≡ true → is_full (noted_all os d) ≡ true
+full_stays os d full = go (is_full (noted_all os d)) refl
+  where
+    go : (t : Bool) → is_full (noted_all os d) ≡ t → is_full (noted_all os d) ≡ true
+    go true e = e
+    go false e = absurd (true≢false (sym full ∙ open_all os d e))

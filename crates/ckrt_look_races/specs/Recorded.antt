@@ -1,10 +1,12 @@
 -- The races of recorded events, as they are written.
-use Rattle.std.specs.Prelude.{◌≡◌, ℕ, ◌+◌, ◌/◌, ◌++◌, min, List, length}
+use Rattle.std.specs.Prelude.{◌≡◌, ℕ, ◌+◌, ◌/◌, ◌++◌, min, true, List, length}
 use Rattle.ckrt_events.specs.declared.event.Event.{Event}
 use Rattle.ckrt_machine.specs.Steps.{State}
 use Rattle.ckrt_look_recording.specs.declared.rule.Rule.{Rule}
+use Rattle.ckrt_look_calls.specs.Stretches.{Account}
 use Rattle.ckrt_look_clocks.specs.Detection.{Found, behind_all, fresh}
 use Rattle.ckrt_look_clocks.specs.LockHistories.{Ordered}
+use Rattle.ckrt_look_clocks.specs.Within.{Detected, fresh_within, is_full, noted_all}
 use Rattle.ckrt_look_races.specs.Again.{Replay, race_text}
 use Rattle.ckrt_look_races.specs.Holders.{HOLDERS}
 use Rattle.ckrt_look_races.specs.Inversions.{inversion_text, orders_text}
@@ -18,6 +20,14 @@ words_of s = 1024 + length s.bytes / 4
 -- how many slots a room of so many bytes has: no more than there are parts of so many words
 abbrev pub slots_in : (room words : ℕ) → ℕ
 slots_in room words = min (room / 286720) (words / 1024 + 1)
+
+-- nothing was noted yet of what is done from a state on, in a room of so many bytes
+abbrev pub fresh_for : (room : ℕ) → State → Detected
+fresh_for room s = fresh_within HOLDERS (words_of s) (slots_in room (words_of s))
+
+-- these events, of which the first is behind k others, fill a room of so many bytes: they touch a part more than it has slots
+abbrev pub FillsRoom : (room k : ℕ) → List Event → State → Type 0
+FillsRoom room k es s = is_full (noted_all (of_events k es s) (fresh_for room s)) ≡ true
 
 -- what is found by these events, of which the first is behind k others, where all that came before is taken as ordered
 abbrev pub found_by : ℕ → List Event → State → Found
@@ -46,3 +56,7 @@ races_text rules k es s = told_races rules k es s ++ told_orders rules k es s
 -- this is that text
 abbrev pub IsRacesText : List Rule → (k : ℕ) → List Event → State → List ℕ → Type 0
 IsRacesText rules k es s text = text ≡ races_text rules k es s
+
+-- what is told of events by a look with a shadow in a room of so many bytes
+abbrev pub races_account : List Rule → (room : ℕ) → Account
+races_account rules room = record { IsText = IsRacesText rules; Fills = FillsRoom room }

@@ -1,14 +1,13 @@
 //! The races of events.
-ghost use Rattle.std.specs.Prelude.{◌≡◌, ◌⊎◌, ◌<◌, ◌+◌, ◌++◌, ◌^◌, false, IfErr, IfOk, OnOk, length};
+ghost use Rattle.std.specs.Prelude.{◌≡◌, ◌⊎◌, ◌<◌, ◌+◌, ◌++◌, ◌^◌, false, true, IfErr, IfOk, OnOk, length};
 ghost use Rattle.std.specs.Io.KnownBytes.{Appends};
 ghost use Rattle.ckrt_machine.specs.Events.{AllAccepted};
 ghost use Rattle.ckrt_inspect.specs.declared.fault.InspectFault.TheVariants.{OutOfMemory, Write as Writing};
 ghost use Rattle.ckrt_look_calls.specs.Stretches.{IsEventsFault};
-ghost use Rattle.ckrt_look_clocks.specs.Within.{noted_all, fresh_within, is_full};
-ghost use Rattle.ckrt_look_races.specs.Holders as holders;
+ghost use Rattle.ckrt_look_clocks.specs.Within.{noted_all, is_full};
 ghost use Rattle.ckrt_look_races.specs.Again.{IsSound, race_text, replay_of};
 ghost use Rattle.ckrt_look_races.specs.Inversions.{inversion_text, orders_text};
-ghost use Rattle.ckrt_look_races.specs.Recorded.{races_text, slots_in, words_of};
+ghost use Rattle.ckrt_look_races.specs.Recorded.{FillsRoom, fresh_for, races_text, slots_in, words_of};
 ghost use Rattle.ckrt_look_races.specs.Steps.{of_events};
 ghost use Rattle.ckrt_look_races.specs.Texts.{found_text};
 
@@ -30,7 +29,7 @@ use std::io::Write;
 ///
 /// # Errors
 ///
-/// `Damaged` where an event isn't accepted at its turn, `OutOfMemory` where the room is used up.
+/// `Damaged` where an event isn't accepted at its turn, `ShadowFull` where the room is used up.
 fn watch_events(
     machine: &mut Machine,
     count: u64,
@@ -44,7 +43,9 @@ fn watch_events(
         ≡ noted_all (of_events count events.now machine.old.state) detector.old) }
     ensures left { OnOk result (is_full detector.new ≡ false) }
     ensures accepted { OnOk result (AllAccepted events.now machine.old.state) }
-    ensures fault { IfErr result (IsEventsFault events.now machine.old.state) }
+    ensures fault { IfErr result (IsEventsFault
+        (is_full (noted_all (of_events count events.now machine.old.state) detector.old) ≡ true)
+        events.now machine.old.state) }
 {
     let mut done = count;
     for event in events {
@@ -53,14 +54,15 @@ fn watch_events(
         }
         watch_event(machine, done, event, detector);
         if detector.is_full() {
-            return Err(InspectFault::OutOfMemory);
+            return Err(InspectFault::ShadowFull);
         }
         done += 1;
     }
     Ok(())
 }
 
-/// How many bytes the room of a look at races has at most: it takes the shadow of 8,193 parts of memory, of 4,096 bytes each.
+/// How many bytes the room of a look at races has, unless it's asked for another one: it takes the shadow of 8,193 parts of memory, of 4,096
+/// bytes each.
 pub const ROOM: u64 = 2_349_096_960;
 
 /// How many words of memory there are, from address 0 on.
@@ -87,8 +89,7 @@ fn slots_in(room: u64, words: usize) -> usize
 /// bytes, or of as many as a shadow of all the guest's memory takes where these are fewer.
 pub fn detector_for(alloc: Global, machine: &Machine, room: u64) -> Result<Detector, AllocError>
     ensures { IfOk result (λ detector. detector
-        ≡ fresh_within holders.HOLDERS (words_of machine.now.state)
-        (slots_in room (words_of machine.now.state))) }
+        ≡ fresh_for room machine.now.state) }
 {
     let words = words_of(machine);
     Detector::new(alloc, HOLDERS, words, slots_in(room, words))
@@ -147,22 +148,23 @@ fn write_all_found<W: Write>(
 
 /// Makes events, each of which is to be accepted at its turn, and writes their races: each pair of places in them once, with the first two
 /// accesses there that race, and how often, or where there were none. Beneath each stand the locks and the callers of both threads at
-/// their accesses, found by the rules, and the memory that was given anew last which has the word of both. Behind them stand the cycles
-/// of orders in which threads took locks, each with what they held and their callers, or where there were none. The first event is behind
+/// accesses, found by the rules, and the memory that was given anew last which has the word of both. After them stand the cycles
+/// of orders in which threads took locks, each with what they held and their callers, or where there were none. The first event is after
 /// `count` others, and what was done before it is taken as ordered. It takes 16 MB, three bytes for each of the guest's memory, and a
-/// room of [`ROOM`] bytes at most, or of 70 for each of the guest's memory where these are fewer. Where it looks at a race again it takes
-/// twelve more for each.
+/// room of so many bytes for its shadow, or of 70 for each of the guest's memory where these are fewer. Where it looks at a race again it
+/// takes twelve more for each.
 ///
 /// # Errors
 ///
-/// `Damaged` where an event isn't accepted at its turn, `OutOfMemory` where a growth was refused or the room was used up, `Write` where
-/// the writer failed.
+/// `Damaged` where an event isn't accepted at its turn, `ShadowFull` where the events fill the room, `OutOfMemory` where a growth was refused,
+/// `Write` where the writer failed.
 pub fn write_races<W: Write>(
     alloc: Global,
     machine: &mut Machine,
     count: u64,
     events: &[Event],
     rules: &[Rule],
+    room: u64,
     out: &mut W,
 ) -> Result<(), InspectFault>
     requires few { count + length events.now < 2 ^ 64 }
@@ -170,9 +172,12 @@ pub fn write_races<W: Write>(
         (Appends (W.contents out.old) (W.contents out.new)
         (races_text rules.now count events.now machine.old.state)) }
     ensures accepted { OnOk result (AllAccepted events.now machine.old.state) }
-    ensures fault { IfErr result (IsEventsFault events.now machine.old.state) }
+    ensures left { OnOk result (FillsRoom room count events.now machine.old.state → ⊥) }
+    ensures fault { IfErr result
+        (IsEventsFault (FillsRoom room count events.now machine.old.state) events.now
+        machine.old.state) }
 {
-    let Ok(mut detector) = detector_for(alloc, machine, ROOM) else {
+    let Ok(mut detector) = detector_for(alloc, machine, room) else {
         return Err(InspectFault::OutOfMemory);
     };
     let Ok(start) = copy_of(alloc, machine) else {

@@ -71,7 +71,7 @@ fn watch_events(
     ensures begins { OnOk result
         (begins.new.items ≡ begins.old.items ++ begins_of 0 events.now machine.old.state) }
     ensures accepted { OnOk result (AllAccepted events.now machine.old.state) }
-    ensures fault { IfErr result (IsEventsFault events.now machine.old.state) }
+    ensures fault { IfErr result (IsEventsFault ⊥ events.now machine.old.state) }
 {
     for event in events {
         if !event.in_range() || machine.accept(0, event).is_err() {
@@ -127,7 +127,7 @@ pub fn write_timeline<W: Write>(
         (Writes (IsDrawing style count events.now machine.old.state) (W.contents out.old)
         (W.contents out.new)) }
     ensures accepted { OnOk result (AllAccepted events.now machine.old.state) }
-    ensures fault { IfErr result (IsEventsFault events.now machine.old.state) }
+    ensures fault { IfErr result (IsEventsFault ⊥ events.now machine.old.state) }
 {
     if events.len() > MAX_EVENTS {
         return Err(InspectFault::OutOfMemory);

@@ -427,6 +427,16 @@ const SHOWN: &[Told] = &[
         "standard output: a write failed\nckrt: Write\n",
     ),
     (
+        "races d",
+        JobFault::Inspect(InspectFault::ShadowFull),
+        "the disk d: the shadow of its memory has no room left; give more bytes by --memory (it has 2349096960 without it), or look at fewer events by --from, --to or --last\nckrt: ShadowFull\n",
+    ),
+    (
+        "hunt i --races",
+        JobFault::ShadowFull,
+        "the image i: the shadow of a run's memory has no room left; give more bytes by --memory (it has 2349096960 without it), or fewer --steps\nckrt: ShadowFull\n",
+    ),
+    (
         "inspect d",
         JobFault::Inspect(InspectFault::Range),
         "the disk d: it has no state after --at events, no longer or not yet; give another number, or leave --at out\nckrt: Range\n",
@@ -626,6 +636,26 @@ const UNFIT: &[Told] = &[
         "races d --from 2 --to 1",
         JobFault::Range,
         "--from is above --to: give another, or leave it out\nckrt: Range\n",
+    ),
+    (
+        "races d --memory 1048576 --from 2 --to 1",
+        JobFault::Range,
+        "--from is above --to: give another, or leave it out\nckrt: Range\n",
+    ),
+    (
+        "races d --memory 1048575 --from 2 --to 1",
+        JobFault::Range,
+        "--memory 1048575 isn't 1048576 or more: give another, or leave it out\nckrt: Range\n",
+    ),
+    (
+        "hunt i --races --memory 0",
+        JobFault::Range,
+        "--memory 0 isn't 1048576 or more: give another, or leave it out\nckrt: Range\n",
+    ),
+    (
+        "hunt i --memory 1048576",
+        JobFault::Range,
+        "--memory goes with --races alone: give another, or leave it out\nckrt: Range\n",
     ),
     (
         "check d --from 2 --to 1",

@@ -189,6 +189,7 @@ fn asked_for(first: u64, last: u64) -> Asked<'static>
         may_end: false,
         input: None,
         races: false,
+        room: 0,
         all_rows: false,
     }
 }

@@ -29,14 +29,14 @@ with-requires c =
     }
 
 pub returns-clause-seen : goal.returns-clause-seen
-returns-clause-seen c = λ start h.
+returns-clause-seen c = λ start slots h.
     let e = c.args.event.now in
     let m = c.args.made.now in
     let w = c.args.detector.now in
     let noted = c.watch_event.ensures.watched
     ∙ ap (λ k. noted_all (of_event k e c.args.stepped.now.state) w) c.from.ensures
     ∙ ap (λ (s : State). noted_all (of_event m.events e s) w) c.requires.alike.same in
-    seen_on c.args.plan.now start m _ c.args.whole.now.state _ e c.runner_of-who.result c.step-answer.result _ w _ (c.runner_of-who.ensures ∙ ap (λ (t : Tables). runner_of e t) c.tables.ensures.tables) c.with.ensures c.step-answer.ensures.step c.requires.scheduled (record { in_range = c.requires.fit.in_range; accepted = c.requires.fit.accepted }) noted h
+    seen_on c.args.plan.now start slots m _ c.args.whole.now.state _ e c.runner_of-who.result c.step-answer.result _ w _ (c.runner_of-who.ensures ∙ ap (λ (t : Tables). runner_of e t) c.tables.ensures.tables) c.with.ensures c.step-answer.ensures.step c.requires.scheduled (record { in_range = c.requires.fit.in_range; accepted = c.requires.fit.accepted }) noted h
 
 pub returns-clause-alike : goal.returns-clause-alike
 returns-clause-alike c =

@@ -5,7 +5,7 @@ use Rattle.ckrt_hunt_races.proofs.walk.watch_run.Given as goal
 -- the run has come so far by its schedule, on both machines
 abbrev pub invariant-events : goal.invariant-events
 invariant-events l = record {
-  seen : HasSeen l.plan l.fn.whole.state l.made l.whole.state l.detector;
+  seen : HasSeen l.plan l.fn.whole.state l.fn.detector.slots.count l.made l.whole.state l.detector;
   alike : AreAlike l.made l.whole.state l.stepped.state;
   whole : HasGoneOn l.fn.whole l.whole;
   stepped : HasGoneOn l.fn.stepped l.stepped;

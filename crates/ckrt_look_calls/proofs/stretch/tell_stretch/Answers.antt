@@ -16,7 +16,7 @@ returns-in_err-from-clause-tells g c = λ honest.
     let f = c.in_err-from.field-0.0 in
     let fault = subst (λ (l : List Event). IsReachFault c.args.stretch (record { first = r.first; start = r.machine.state; events = l }) f) same c.in_err-from.ensures.fault in
     let result : c.from_residual-in_err-from.result ≡ Err f = search rules in
-    subst (λ q. TellsStretch (g.T.Telling.Tells c.args.telling.now) c.args.stretch image out out q) (sym result) (fault_of_reaching c.args.stretch image (recorded_of r) f has fault)
+    subst (λ q. TellsStretch (g.T.Telling.Tells c.args.telling.now) c.args.stretch image out out q) (sym result) (fault_of_reaching (g.T.Telling.Tells c.args.telling.now) c.args.stretch image (recorded_of r) f has fault)
 
 -- it was told of
 pub returns-clause-tells : goal.returns-clause-tells
