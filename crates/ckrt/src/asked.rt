@@ -46,8 +46,8 @@ fn image_of<'a, R: Files<File = File>>(rt: &R, job: &Job<'a>) -> Option<&'a str>
 fn disk_of<'a>(job: &Job<'a>) -> Option<&'a str> {
     match job {
         Job::Inspect(job) => Some(job.disk),
-        Job::Calls(job) | Job::Check(job) => Some(job.disk),
-        Job::Races(job) => Some(job.stretch.disk),
+        Job::Calls(job) => Some(job.disk),
+        Job::Races(job) | Job::Check(job) => Some(job.stretch.disk),
         Job::Profile(job) => Some(job.stretch.disk),
         Job::Timeline(job) => Some(job.stretch.disk),
         Job::Drive(job) => Some(job.disk),

@@ -339,8 +339,8 @@ pub fn before<'a, R: Files<File = File>>(
 ) -> Result<Beside<'a>, Refusal<'a>> {
     match job {
         Job::Inspect(job) => Ok(of_disk(rt, alloc, job.disk)),
-        Job::Calls(job) | Job::Check(job) => Ok(of_disk(rt, alloc, job.disk)),
-        Job::Races(job) => Ok(of_disk(rt, alloc, job.stretch.disk)),
+        Job::Calls(job) => Ok(of_disk(rt, alloc, job.disk)),
+        Job::Races(job) | Job::Check(job) => Ok(of_disk(rt, alloc, job.stretch.disk)),
         Job::Profile(job) => Ok(of_disk(rt, alloc, job.stretch.disk)),
         Job::Timeline(job) => Ok(of_disk(rt, alloc, job.stretch.disk)),
         Job::Hunt(job) => of_image(rt, alloc, job.image),

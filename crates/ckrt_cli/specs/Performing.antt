@@ -227,7 +227,7 @@ Performs {d = d} it (debug j) old new outcome =
 Performs {d = d} it (races s) old new outcome =
     Does outcome_without_end (RacesPath d (it.Opens s.stretch.disk) it.rules s old new) outcome
 Performs {d = d} it (check s) old new outcome =
-    Does outcome_without_end (ChecksPath d (it.Opens s.disk) it.rules s old new) outcome
+    Does outcome_without_end (ChecksPath d (it.Opens s.stretch.disk) it.rules s old new) outcome
 Performs {d = d} it (timeline j) old new outcome =
     Does outcome_without_end (TimelinePath d (it.Opens j.stretch.disk) j old new) outcome
 Performs {d = d} it (profile p) old new outcome =

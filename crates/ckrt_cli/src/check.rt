@@ -1,13 +1,14 @@
 //! Telling the errors of memory of what a disk has recorded.
 ghost use Rattle.std.specs.Prelude.{ℕ, List, Option};
-ghost use Rattle.ckrt_cli_words.specs.Jobs.{disk_stretch_of};
+ghost use Rattle.ckrt_cli_words.specs.Jobs.{shadowing_of};
 ghost use Rattle.ckrt_cli_reports.specs.Outside.{outside};
 ghost use Rattle.ckrt_cli.specs.Looking.{ChecksPath};
 
 use crate::looking::look_path;
+use crate::races::room_of;
 use ckrt_cli_files::Sources;
-use ckrt_cli_reports::JobFault;
-use ckrt_cli_words::StretchJob;
+use ckrt_cli_reports::{JobFault, is_room};
+use ckrt_cli_words::ShadowJob;
 use ckrt_disk::Disk;
 use ckrt_events::Event;
 use ckrt_inspect::InspectFault;
@@ -18,17 +19,18 @@ use ckrt_machine::Machine;
 use std::alloc::Global;
 use std::io::{Read, Write};
 
-/// Its errors of memory, a line for each place, with what is told of the first one there. Callers are found by rules.
+/// Its errors of memory, a line for each place, with what is told of the first one there. Callers are found by rules, and the shadow may take
+/// so many bytes.
 #[derive(Clone, Copy)]
 struct Errors<'a> {
     rules: &'a [Rule],
+    room: u64,
 }
 
 impl Telling for Errors<'_> {
-    ghost use Rattle.ckrt_look_calls.specs.Stretches.{account};
-    ghost use Rattle.ckrt_look_heap.specs.Recorded.{IsErrorsText};
+    ghost use Rattle.ckrt_look_heap.specs.Recorded.{errors_account};
 
-    ghost Tells = { λ r. account (IsErrorsText r.rules.now) };
+    ghost Tells = { λ r. errors_account r.rules.now r.room };
 
     fn tell<W: Write>(
         &self,
@@ -38,7 +40,7 @@ impl Telling for Errors<'_> {
         events: &[Event],
         out: &mut W,
     ) -> Result<(), InspectFault> {
-        write_errors(alloc, machine, count, events, self.rules, out)
+        write_errors(alloc, machine, count, events, self.rules, self.room, out)
     }
 }
 
@@ -47,19 +49,27 @@ impl Telling for Errors<'_> {
 ///
 /// # Errors
 ///
-/// As those of [`calls_path`](crate::calls_path).
+/// As those of [`calls_path`](crate::calls_path), and `Range` where the shadow would have fewer than 1,048,576 bytes, before anything is
+/// opened; `Inspect` of `ShadowFull` where the events fill its room.
 pub fn check_path<'a, I: Read, D: Disk, S: Sources<'a, I, D>, W: Write>(
     alloc: Global,
-    job: &StretchJob<'a>,
+    job: &ShadowJob<'a>,
     rules: &[Rule],
     sources: &mut S,
     writer: &mut W,
 ) -> Result<(), JobFault>
     ensures checks { (left : Option (List ℕ))
-        → ChecksPath D.Disk (S.opens sources.old job.now.disk.now) rules.now
-        (disk_stretch_of job.now)
+        → ChecksPath D.Disk (S.opens sources.old job.now.stretch.disk.now) rules.now
+        (shadowing_of job.now)
         (outside (S.openings sources.old) (W.contents writer.old) left)
         (outside (S.openings sources.new) (W.contents writer.new) left) result }
 {
-    look_path::<I, D, S, Errors, W>(alloc, job, &Errors { rules }, sources, writer)
+    if !is_room(job.memory) {
+        return Err(JobFault::Range);
+    }
+    let errors = Errors {
+        rules,
+        room: room_of(job.memory),
+    };
+    look_path::<I, D, S, Errors, W>(alloc, &job.stretch, &errors, sources, writer)
 }

@@ -155,8 +155,8 @@ fn unfit_hunt(job: &HuntJob<'_>) -> Sentence<'static> {
 fn unfit(job: &Job<'_>) -> Sentence<'static> {
     match job {
         Job::Drive(job) => unfit_drive(job),
-        Job::Calls(_) | Job::Check(_) | Job::Profile(_) => plain(TURNED),
-        Job::Races(job) => unfit_shadow(job),
+        Job::Calls(_) | Job::Profile(_) => plain(TURNED),
+        Job::Races(job) | Job::Check(job) => unfit_shadow(job),
         Job::Timeline(job) => unfit_drawing(job),
         Job::Hunt(job) => unfit_hunt(job),
         _ => plain(""),
@@ -287,7 +287,7 @@ fn path<'a>(job: &Job<'a>, file: JobFile) -> &'a str {
         (Job::Calls(job), JobFile::Disk) => job.disk,
         (Job::Debug(job), JobFile::Disk) => job.disk,
         (Job::Races(job), JobFile::Disk) => job.stretch.disk,
-        (Job::Check(job), JobFile::Disk) => job.disk,
+        (Job::Check(job), JobFile::Disk) => job.stretch.disk,
         (Job::Timeline(job), JobFile::Disk) => job.stretch.disk,
         (Job::Profile(job), JobFile::Disk) => job.stretch.disk,
         (Job::Hunt(job), JobFile::Image) => job.image,

@@ -89,7 +89,7 @@ races_rules : AreRules races_shape refl races_shape.rules
 races_rules = ((refl, inl (refl, refl)), ((refl, inl (refl, refl)), ((refl, inl (refl, refl)), ((refl, inl (refl, refl)), ((refl, inl (refl, refl)), ((refl, inl (refl, refl)), ((refl, inr (inl refl)), tt)))))))
 
 check_rules : AreRules check_shape refl check_shape.rules
-check_rules = ((refl, inl (refl, refl)), ((refl, inl (refl, refl)), ((refl, inl (refl, refl)), ((refl, inl (refl, refl)), ((refl, inl (refl, refl)), ((refl, inr (inl refl)), tt))))))
+check_rules = ((refl, inl (refl, refl)), ((refl, inl (refl, refl)), ((refl, inl (refl, refl)), ((refl, inl (refl, refl)), ((refl, inl (refl, refl)), ((refl, inl (refl, refl)), ((refl, inr (inl refl)), tt)))))))
 
 timeline_rules : AreRules timeline_shape refl timeline_shape.rules
 timeline_rules = ((refl, inl (refl, refl)), ((refl, inl (refl, refl)), ((refl, inl (refl, refl)), ((refl, inl (refl, refl)), ((refl, inl (refl, refl)), ((refl, inl (refl, refl)), ((refl, inr (inr (refl, (_, [], refl)))), ((refl, inr (inl refl)), tt))))))))
@@ -167,7 +167,7 @@ check_named words pass =
     let kept = level_kept check_shape refl check_rules [] nothing_held words false pass tt in
     let given = has_required check_shape rows false (level_valid check_shape [] nothing_held words false pass) refl in
     let stretch = stretch_there check_shape refl rows _ kept refl (both (is_given (codes "disk") rows) true given).0 in
-    (check stretch.0, ap (option_map check) stretch.1)
+    (check (record { stretch = stretch.0; memory = place_in (codes "memory") rows }), rw stretch.1 refl)
 
 -- two flags, not both of them, ask for a form
 form_there : (folded callgrind : Bool) → (folded && callgrind) ≡ false → (f : ProfileForm) × (form_of folded callgrind ≡ Some f)

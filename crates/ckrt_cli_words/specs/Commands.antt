@@ -1,6 +1,7 @@
 -- The program's command line, as `clap` sees it: `format DISK IMAGE [--pages P] [--harts H] [--journal J] [--env NAME=VALUE]`, `run DISK`,
 -- `inspect DISK [--at K] [--code] [--names FILE]`, `core DISK FILE [--at K]`, `calls DISK [--from K] [--to K] [--last N] [--names FILE]`,
--- `debug DISK [--at K]`, `races DISK [--from K] [--to K] [--last N] [--names FILE] [--memory BYTES]`, `check DISK [--from K] [--to K] [--last N] [--names FILE]`,
+-- `debug DISK [--at K]`, `races DISK [--from K] [--to K] [--last N] [--names FILE] [--memory BYTES]`,
+-- `check DISK [--from K] [--to K] [--last N] [--names FILE] [--memory BYTES]`,
 -- `timeline DISK [--from K] [--to K] [--last N] [--names FILE] [--width W] [--json]`,
 -- `profile DISK [--from K] [--to K] [--last N] [--names FILE] [--folded | --callgrind]`,
 -- `hunt IMAGE [--seeds A-B | --seconds S] [--pages P] [--harts H] [--input FILE] [--steps N] [--races] [--memory BYTES] [--ignore-output] [--rows] [--keep DISK | FOLDER/] [--table FILE]
@@ -104,7 +105,7 @@ abbrev pub races_app : App
 races_app = shadow_app (new_app (codes "races"))
 
 abbrev pub check_app : App
-check_app = stretch_app (new_app (codes "check"))
+check_app = shadow_app (new_app (codes "check"))
 
 abbrev pub timeline_app : App
 timeline_app =

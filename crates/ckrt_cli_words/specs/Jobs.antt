@@ -124,7 +124,7 @@ pub data Request : Type 0 where
   timeline : Drawing → Request
   profile : Profiling → Request
   hunt : Hunting → Request
-  check : DiskStretch → Request
+  check : Shadowing → Request
 
 abbrev pub formatting_of : FormatJob → Formatting
 formatting_of f =
@@ -207,7 +207,7 @@ request_of (job.Races s) = races (shadowing_of s)
 request_of (job.Timeline t) = timeline (drawing_of t)
 request_of (job.Profile p) = profile (profiling_of p)
 request_of (job.Hunt h) = hunt (hunting_of h)
-request_of (job.Check s) = check (disk_stretch_of s)
+request_of (job.Check s) = check (shadowing_of s)
 
 -- decimal digits, one or more, after a plus or not, of a number of so many bits
 abbrev pub is_number : ℕ → Text → Bool
@@ -361,7 +361,7 @@ request_in p =
     else if bytes_eq p.0 (codes "timeline") then option_map timeline (drawing_in p.1)
     else if bytes_eq p.0 (codes "profile") then option_map profile (profiling_in p.1)
     else if bytes_eq p.0 (codes "hunt") then option_map hunt (hunting_in p.1)
-    else if bytes_eq p.0 (codes "check") then option_map check (disk_stretch_in p.1)
+    else if bytes_eq p.0 (codes "check") then option_map check (shadowing_in p.1)
     else None
 
 -- `profile` with both of its forms: the only words that `clap` takes and that name no job

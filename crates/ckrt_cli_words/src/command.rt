@@ -344,12 +344,12 @@ fn races_command<'a>(alloc: Global) -> Result<Command<'a>, AllocError>
         .args(arguments)
 }
 
-/// `check DISK` with the options of a stretch.
+/// `check DISK` with the options of a stretch, and of a shadow.
 fn check_command<'a>(alloc: Global) -> Result<Command<'a>, AllocError>
     ensures app { IfOk result (λ c. app_of c ≡ check_app) }
     ensures local { IfOk result (λ c. (out-Command c).has_globals ≡ false) }
 {
-    let arguments = stretch_arguments(alloc)?;
+    let arguments = shadow_arguments(alloc)?;
     Command::new(alloc, "check")
         .about(
             "Tells the errors of memory of a stopped guest, and changes nothing, as `ckrt check pi.disk`",

@@ -25,7 +25,7 @@ pub enum Job<'a> {
     /// Tell the data races of what a disk holds: `races DISK`.
     Races(ShadowJob<'a>),
     /// Tell the errors of memory of what a disk holds: `check DISK`.
-    Check(StretchJob<'a>),
+    Check(ShadowJob<'a>),
     /// Draw what the threads of a disk did: `timeline DISK`.
     Timeline(TimelineJob<'a>),
     /// Count where the steps of a disk went: `profile DISK`.

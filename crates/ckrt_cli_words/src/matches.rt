@@ -275,9 +275,9 @@ fn races_named<'a>(given: &ArgMatches<'a>) -> Option<Job<'a>>
 /// The job of `check` with these matches.
 fn check_named<'a>(given: &ArgMatches<'a>) -> Option<Job<'a>>
     ensures { option_map request_of result
-        ≡ option_map check (disk_stretch_in (rows_of (found_of given.now))) }
+        ≡ option_map check (shadowing_in (rows_of (found_of given.now))) }
 {
-    Some(Job::Check(stretch(given)?))
+    Some(Job::Check(shadowing(given)?))
 }
 
 /// The job of `timeline` with these matches.

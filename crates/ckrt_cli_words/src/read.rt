@@ -49,7 +49,7 @@ const RACES_USAGE: &str =
 
 /// What follows a number of `check` that isn't one.
 const CHECK_USAGE: &str =
-    "Usage: ckrt check <DISK> [--from NUMBER OF EVENTS] [--to NUMBER OF EVENTS] [--last NUMBER OF EVENTS] [--names <FILE>]";
+    "Usage: ckrt check <DISK> [--from NUMBER OF EVENTS] [--to NUMBER OF EVENTS] [--last NUMBER OF EVENTS] [--names <FILE>] [--memory BYTES]";
 
 /// What follows a number of `timeline` that isn't one.
 const TIMELINE_USAGE: &str =
@@ -150,7 +150,7 @@ fn is_version(words: &[&str]) -> bool
 /// `hunt` has no seeds, no seconds, 64 pages, 1 hart, no file of its input, runs of at most 10,000,000 steps, no look at races and no bytes of its shadow, outcomes that outputs tell apart, of many outputs the commonest alone, no disk, no file of its table and no line of progress where these aren't given;
 /// the numbers that are have to be below 2^32 and, of seconds and bytes, 2^64. The text of the seeds is handed on as it is.
 ///
-/// `races`, `check`, `timeline` and `profile` take a stretch as `calls` does, and `races` a number of bytes below 2^64. A picture is 1,200 pixels wide where `--width` isn't given, which has
+/// `races`, `check`, `timeline` and `profile` take a stretch as `calls` does, and `races` and `check` a number of bytes below 2^64. A picture is 1,200 pixels wide where `--width` isn't given, which has
 /// to be below 2^32. `profile` has no ELF file and a table where these aren't given; with both of its forms it names no job.
 ///
 /// `drive` has turns of 1,000,000 steps, 16 rounds between two commits, no image, no sizes, no files of its input and its output, no limit of

@@ -1,14 +1,13 @@
 -- Words of a block that is given, or given back.
-use Rattle.std.proofs.Common.{◌≡◌, inl, inr, ◌≤◌, ◌<◌, ℕ, zero, suc, ◌+◌, ◌-◌, ◌/◌, min, Bool, true, if◌then◌else◌, List, length, get_or, slice_get, Option, Some, None, refl, ap, ◌∙◌, arith}
+use Rattle.std.proofs.Common.{◌≡◌, inl, inr, ◌≤◌, ◌<◌, ℕ, zero, suc, ◌+◌, ◌-◌, ◌/◌, min, Bool, if◌then◌else◌, List, length, get_or, slice_get, Option, Some, None, refl, ap, ◌∙◌, arith}
 use Rattle.std.proofs.lemmas.Bool.{cases_eq}
 use Rattle.std.proofs.lemmas.Grind.{get_or-set_at}
 use Rattle.std.proofs.lemmas.List.{get_or-set_other, length-set}
 use Rattle.std.proofs.lemmas.Option.{slice_get-get_or}
-use Rattle.ckrt_look_heap.specs.declared.block.Access.{Access}
 use Rattle.ckrt_look_heap.specs.declared.block.Block.{Block}
 use Rattle.ckrt_look_heap.specs.declared.block.Cell.{Cell}
 use Rattle.ckrt_look_heap.specs.declared.block.Cell.TheVariants as cell
-use Rattle.ckrt_look_heap.specs.Shadow.{Heap, few, filled, given, given_back, is_within, part_of, used_as, wrong}
+use Rattle.ckrt_look_heap.specs.Shadow.{Heap, few, filled, given, given_back, part_of, used_as, wrong}
 use Rattle.ckrt_look_heap.specs.Laws.{GivenBackBlocksAreTold, GivenBlocksAreUsed, IsWordOf}
 
 filled_size : (n first : ℕ) (c : Cell) (cells : List Cell) → length (filled n first c cells) ≡ length cells

@@ -5,5 +5,10 @@ pub mod FoundLemmas
 pub mod LawLemmas
 pub mod LeftLemmas
 pub mod ListLemmas
+pub mod PartLemmas
 pub mod ReplayLemmas
+pub mod ShadowLemmas
+pub mod SplitLemmas
+pub mod SufficeLemmas
 pub mod WalkLemmas
+pub mod WithinLemmas

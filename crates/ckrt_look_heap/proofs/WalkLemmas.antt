@@ -3,7 +3,7 @@ use Rattle.std.proofs.Common.{◌≡◌, ◌∙◌, ℕ, suc, List, [], ◌++◌
 use Rattle.ckrt_machine.specs.declared.event.RunEnd.{RunEnd}
 use Rattle.ckrt_machine.specs.Runs.{stop_of, with_byte}
 use Rattle.ckrt_machine.specs.Steps.{State, hart_step}
-use Rattle.ckrt_look_heap.specs.Shadow.{Heap, behind_all}
+use Rattle.ckrt_look_heap.specs.Within.{Noted, noted_all}
 use Rattle.ckrt_look_heap.specs.Steps.{at, of_rest, of_run, of_step, unless_ended}
 use Rattle.ckrt_look_heap.proofs.BehindLemmas.{behind_both}
 
@@ -29,10 +29,10 @@ rest_used k made h s out = go (stop_of h s.tables out)
     go (Some how) = refl
 
 -- a run, by its first step and those behind it
-pub run_watched : (k n limit h : ℕ) (s t : State) (out : List ℕ) (w : Heap) → suc n ≡ limit → t ≡ (hart_step h s).state → out ≡ with_byte (hart_step h s).put []
-    → behind_all (of_rest k n 1 h t out) (behind_all (of_step (at k 0) h s) w) ≡ behind_all (of_run k limit 0 h s []) w
+pub run_watched : (k n limit h : ℕ) (s t : State) (out : List ℕ) (w : Noted) → suc n ≡ limit → t ≡ (hart_step h s).state → out ≡ with_byte (hart_step h s).put []
+    → noted_all (of_rest k n 1 h t out) (noted_all (of_step (at k 0) h s) w) ≡ noted_all (of_run k limit 0 h s []) w
 run_watched k n limit h s t out w all state output =
-    ap (λ (r : State). behind_all (of_rest k n 1 h r out) (behind_all (of_step (at k 0) h s) w)) state
-    ∙ ap (λ o. behind_all (of_rest k n 1 h (hart_step h s).state o) (behind_all (of_step (at k 0) h s) w)) output
+    ap (λ (r : State). noted_all (of_rest k n 1 h r out) (noted_all (of_step (at k 0) h s) w)) state
+    ∙ ap (λ o. noted_all (of_rest k n 1 h (hart_step h s).state o) (noted_all (of_step (at k 0) h s) w)) output
     ∙ sym (behind_both (of_step (at k 0) h s) (of_rest k n 1 h (hart_step h s).state (with_byte (hart_step h s).put [])) w)
-    ∙ ap (λ j. behind_all (of_run k j 0 h s []) w) all
+    ∙ ap (λ j. noted_all (of_run k j 0 h s []) w) all

@@ -1,4 +1,6 @@
 pub mod Shadow
+pub mod Parts
+pub mod Within
 pub mod Notes
 pub mod Steps
 pub mod Moments

@@ -1,5 +1,5 @@
 -- What a step that is no call notes: a load or a store, and what the kit tells of memory. Fetches are no loads.
-use Rattle.std.specs.Prelude.{ℕ, ◌+◌, ◌-◌, ◌*◌, ◌/◌, ◌%◌, ◌==◌, not, Bool, true, false, if◌then◌else◌, List, [], ◌∷◌, Option, Some, None}
+use Rattle.std.specs.Prelude.{ℕ, ◌+◌, ◌-◌, ◌*◌, ◌/◌, ◌%◌, ◌==◌, not, Bool, if◌then◌else◌, List, [], ◌∷◌, Option, Some, None}
 use Rattle.ckrt_registers.specs.Registers.{Registers, get}
 use Rattle.ckrt_rv32i.specs.Effect.{load_size}
 use Rattle.ckrt_rv32i.specs.Memory.{byte_count}

@@ -6,6 +6,8 @@ use Rattle.ckrt_look_heap.specs.declared.block.Access.{Access}
 use Rattle.ckrt_look_heap.specs.declared.block.Block.{Block}
 use Rattle.ckrt_look_heap.specs.declared.block.Cell.{Cell}
 use Rattle.ckrt_look_heap.specs.declared.block.Cell.TheVariants as cell
+use Rattle.ckrt_look_heap.specs.declared.block.Change.{Change}
+use Rattle.ckrt_look_heap.specs.declared.block.Change.TheVariants as change
 use Rattle.ckrt_look_heap.specs.declared.block.Deed.{Deed}
 use Rattle.ckrt_look_heap.specs.declared.block.Deed.TheVariants as deed
 use Rattle.ckrt_look_heap.specs.declared.block.Moment.{Moment}
@@ -147,6 +149,11 @@ abbrev pub left_by : Moment → Cell → Cell
 left_by m cell.Unknown = cell.Unowned
 left_by m (cell.Given b) = cell.Ended b m
 left_by m c = c
+
+-- what is told of a word by a change
+abbrev pub changed_by : Change → Cell → Cell
+changed_by (change.Told d) c = d
+changed_by (change.Left m) c = left_by m c
 
 abbrev pub left_at : (i : ℕ) → Moment → List Cell → List Cell
 left_at i m cells = slice_set cells i (left_by m (get_or cells i cell.Unknown))

@@ -1,5 +1,5 @@
 -- What was found, as text (this project's own format): a line an error, which begins as a line of a call does.
-use Rattle.std.specs.Prelude.{ℕ, ◌+◌, ◌-◌, ◌==◌, nat_le, min, Bool, true, false, if◌then◌else◌, List, [], ◌∷◌, ◌++◌, length, take, codes, decimal}
+use Rattle.std.specs.Prelude.{ℕ, ◌+◌, ◌-◌, ◌==◌, nat_le, min, if◌then◌else◌, List, [], ◌∷◌, ◌++◌, length, take, codes, decimal}
 use Rattle.std.specs.List.{flat_map}
 use Rattle.ckrt_inspect.specs.Texts.{hex_text}
 use Rattle.ckrt_look_heap.specs.declared.block.Access.{Access}

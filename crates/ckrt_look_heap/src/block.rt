@@ -1,6 +1,6 @@
 //! Blocks of a heap, what is told of words of memory, and what is done to these.
 ghost use Rattle.std.specs.Prelude.{◌≡◌};
-ghost use Rattle.ckrt_look_heap.specs.Shadow.{begin_of, is_begin, is_load, is_within, kind_of, may_use, needed, number_of};
+ghost use Rattle.ckrt_look_heap.specs.Shadow.{begin_of, changed_by, is_begin, is_load, is_within, kind_of, left_by, may_use, needed, number_of};
 
 use ckrt_look_calls::Place;
 
@@ -40,6 +40,36 @@ pub enum Cell {
     GivenBack(Block, Moment),
     /// It is a block's, in a part that is nobody's any more, as a stack that has ended.
     Ended(Block, Moment),
+}
+
+/// What is told of words.
+#[derive(Clone, Copy, Debug, Drop)]
+pub(crate) enum Change {
+    /// This.
+    Told(Cell),
+    /// They are nobody's from a moment on.
+    Left(Moment),
+}
+
+/// What is told of a word that is nobody's from a moment on.
+fn left_by(moment: Moment, cell: &Cell) -> Cell
+    ensures { result ≡ left_by moment cell.now }
+{
+    match cell {
+        Cell::Unknown => Cell::Unowned,
+        Cell::Given(block) => Cell::Ended(*block, moment),
+        Cell::Unowned | Cell::GivenBack(_, _) | Cell::Ended(_, _) => *cell,
+    }
+}
+
+/// What is told of a word then.
+pub(crate) fn changed_by(change: &Change, cell: &Cell) -> Cell
+    ensures { result ≡ changed_by change.now cell.now }
+{
+    match change {
+        Change::Told(told) => *told,
+        Change::Left(moment) => left_by(*moment, cell),
+    }
 }
 
 /// What is done to memory.

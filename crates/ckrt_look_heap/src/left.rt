@@ -35,12 +35,12 @@ fn append(blocks: &mut Vec<Block>, word: usize, cell: &Cell) -> Result<(), Alloc
 
 /// All blocks that weren't given back.
 #[tactic(auto, using(crate::proofs::LeftLemmas::left_next, crate::proofs::LeftLemmas::left_all))]
-fn left_blocks(alloc: Global, cells: &[Cell]) -> Result<Vec<Block>, AllocError>
-    ensures { IfOk result (λ blocks. blocks.items ≡ left_from 0 cells.now) }
+fn left_blocks(alloc: Global, shadow: &Shadow) -> Result<Vec<Block>, AllocError>
+    ensures { IfOk result (λ blocks. blocks.items ≡ left_from 0 shadow.now.heap.cells) }
 {
     let mut blocks = Vec::new(alloc);
-    for word in 0..cells.len() {
-        append(&mut blocks, word, &cells[word])?;
+    for word in 0..shadow.len() {
+        append(&mut blocks, word, &shadow.told_of(word))?;
     }
     Ok(blocks)
 }
@@ -154,15 +154,15 @@ fn write_some<W: Write>(
 fn write_left_of<W: Write>(
     alloc: Global,
     source: &Source<'_>,
-    cells: &[Cell],
+    shadow: &Shadow,
     out: &mut W,
 ) -> Result<(), InspectFault>
     requires sound { IsSound (replay_of source.now) }
     ensures written { OnOk result (Appends (W.contents out.old) (W.contents out.new)
-        (blocks_text (left_text (replay_of source.now)) (left_from 0 cells.now))) }
+        (blocks_text (left_text (replay_of source.now)) (left_from 0 shadow.now.heap.cells))) }
     ensures fault { IfErr result (λ e. (e ≡ OutOfMemory) ⊎ (e ≡ Writing)) }
 {
-    let Ok(blocks) = left_blocks(alloc, cells) else {
+    let Ok(blocks) = left_blocks(alloc, shadow) else {
         return Err(InspectFault::OutOfMemory);
     };
     write_some(alloc, source, blocks.as_slice(), out)
@@ -178,11 +178,11 @@ pub(crate) fn write_left<W: Write>(
 ) -> Result<(), InspectFault>
     requires sound { IsSound (replay_of source.now) }
     ensures written { OnOk result (Appends (W.contents out.old) (W.contents out.new)
-        (left_lines (left_text (replay_of source.now)) shadow.now)) }
+        (left_lines (left_text (replay_of source.now)) shadow.now.heap)) }
     ensures fault { IfErr result (λ e. (e ≡ OutOfMemory) ⊎ (e ≡ Writing)) }
 {
     if !shadow.has_ended() {
         return Ok(());
     }
-    write_left_of(alloc, source, shadow.cells(), out)
+    write_left_of(alloc, source, shadow, out)
 }

@@ -8,13 +8,13 @@
 mod again;
 mod block;
 mod callers;
-mod cells;
 mod finding;
 mod found;
 mod laws;
 mod left;
 mod moment;
 mod notes;
+mod parts;
 mod recorded;
 mod replay;
 mod shadow;
@@ -23,7 +23,11 @@ mod walk;
 
 pub use block::{Access, Block, Cell, Deed, Moment, Part};
 pub use finding::{FINDINGS, Finding};
-pub use laws::{example_is_told, given_back_blocks_are_told, given_blocks_are_used};
-pub use recorded::{PAGES_LIMIT, shadow_for, write_errors};
+pub use laws::{
+    example_is_told, given_back_blocks_are_told, given_blocks_are_used, nothing_is_left_out,
+    room_for_all_suffices,
+};
+pub use parts::PART_BYTES;
+pub use recorded::{shadow_for, write_errors};
 pub use shadow::{Note, Shadow};
 pub use walk::watch_event;

@@ -5,7 +5,7 @@ ghost use Rattle.ckrt_mutex.specs.Mutex.{is_owner, mutex_at};
 ghost use Rattle.ckrt_look_recording.specs.Accesses.{fetched};
 ghost use Rattle.ckrt_look_heap.specs.declared.shadow.Note.TheVariants as note;
 ghost use Rattle.ckrt_look_heap.specs.Notes.{access_of, block_of, free_of, is_in_heap, moment_of, notes, of_instruction, told_by, unless_in_heap, unowned, use_at};
-ghost use Rattle.ckrt_look_heap.specs.Shadow.{behind_all};
+ghost use Rattle.ckrt_look_heap.specs.Within.{noted_all};
 
 use crate::block::{Access, Block, Deed, Moment, Part};
 use crate::shadow::Shadow;
@@ -61,7 +61,7 @@ fn access_of(step: &Stepping, deed: Deed, address: u32, size: Size) -> Access
 
 /// A load or a store is noted unless its thread is within the heap. Most are right, and then nobody asks.
 fn note_use(tables: &Tables, step: &Stepping, access: &Access, shadow: &mut Shadow)
-    ensures { shadow.new ≡ behind_all (unless_in_heap
+    ensures { shadow.new ≡ noted_all (unless_in_heap
         (is_in_heap step.now.thread tables.now) (note.Use access.now)) shadow.old }
 {
     if shadow.wrong(access).is_none() {
@@ -82,7 +82,7 @@ fn watch_use(
     size: Size,
     shadow: &mut Shadow,
 )
-    ensures { shadow.new ≡ behind_all
+    ensures { shadow.new ≡ noted_all
         (use_at machine.now.state step.now deed address size) shadow.old }
 {
     if may_access(machine.memory().as_slice(), address, size) {
@@ -121,7 +121,7 @@ fn free_of(step: &Stepping, address: u32) -> Access
 
 /// Memory that is nobody's, or a block that is given back.
 fn watch_unowned(machine: &Machine, step: &Stepping, from: u32, bytes: u32, shadow: &mut Shadow)
-    ensures { shadow.new ≡ behind_all
+    ensures { shadow.new ≡ noted_all
         (unowned machine.now.state step.now from bytes) shadow.old }
 {
     if bytes == 0 {
@@ -145,7 +145,7 @@ fn watch_told(
     bytes: u32,
     shadow: &mut Shadow,
 )
-    ensures { shadow.new ≡ behind_all
+    ensures { shadow.new ≡ noted_all
         (told_by machine.now.state step.now op from bytes) shadow.old }
 {
     match op {
@@ -158,7 +158,7 @@ fn watch_told(
 /// What an instruction notes.
 fn watch_instruction(machine: &Machine, step: &Stepping, shadow: &mut Shadow)
     requires { step.now.regs.pc % 4 ≡ 0 }
-    ensures { shadow.new ≡ behind_all (of_instruction machine.now.state step.now
+    ensures { shadow.new ≡ noted_all (of_instruction machine.now.state step.now
         (fetched machine.now.state.bytes step.now.regs.pc)) shadow.old }
 {
     match fetched(machine.memory().as_slice(), step.regs.pc()) {
@@ -200,7 +200,7 @@ fn watch_instruction(machine: &Machine, step: &Stepping, shadow: &mut Shadow)
 
 /// What the next step of a hart notes, if that is an instruction.
 pub(crate) fn watch_notes(machine: &Machine, place: Place, hart: u8, shadow: &mut Shadow)
-    ensures { shadow.new ≡ behind_all
+    ensures { shadow.new ≡ noted_all
         (notes place (hart_of machine.now.state.tables hart) machine.now.state) shadow.old }
 {
     let threads = &machine.tables().threads;

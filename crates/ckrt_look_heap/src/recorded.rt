@@ -1,18 +1,18 @@
 //! The errors of memory of events.
-ghost use Rattle.std.specs.Prelude.{◌≡◌, ◌⊎◌, ◌<◌, ◌+◌, ◌^◌, IfErr, IfOk, OnOk, length};
-ghost use Rattle.std.specs.Bool.{OnFalse, OnTrue};
+ghost use Rattle.std.specs.Prelude.{◌≡◌, ◌⊎◌, ◌<◌, ◌+◌, ◌^◌, false, true, IfErr, IfOk, OnOk, length};
 ghost use Rattle.std.specs.Io.KnownBytes.{Appends};
 ghost use Rattle.ckrt_machine.specs.Events.{AllAccepted};
 ghost use Rattle.ckrt_inspect.specs.declared.fault.InspectFault.TheVariants.{OutOfMemory, Write as Writing};
 ghost use Rattle.ckrt_look_calls.specs.Stretches.{IsEventsFault};
 ghost use Rattle.ckrt_look_heap.specs.Again.{IsSound, finding_text, replay_of};
-ghost use Rattle.ckrt_look_heap.specs.Recorded.{errors_text, fresh_behind, text_by, words_of};
-ghost use Rattle.ckrt_look_heap.specs.Shadow.{behind_all};
+ghost use Rattle.ckrt_look_heap.specs.Recorded.{FillsRoom, errors_text, fresh_for, slots_in, text_by, words_of};
 ghost use Rattle.ckrt_look_heap.specs.Steps.{of_events};
 ghost use Rattle.ckrt_look_heap.specs.Texts.{found_text};
+ghost use Rattle.ckrt_look_heap.specs.Within.{is_full, noted_all};
 
 use crate::again::write_findings;
 use crate::left::write_left;
+use crate::parts::PART_BYTES;
 use crate::replay::{Source, copy_of};
 use crate::shadow::Shadow;
 use crate::texts::{write_none, write_others_line, write_untold};
@@ -24,28 +24,41 @@ use ckrt_machine::Machine;
 use std::alloc::{AllocError, Global};
 use std::io::Write;
 
-/// Makes events, if each is accepted at its turn, and gives a shadow what they note, up to their end. The first is behind `count` others.
-fn watch_events(machine: &mut Machine, count: u64, events: &[Event], shadow: &mut Shadow) -> bool
+/// Makes events, and gives a shadow what they note, up to their end, as long as its room isn't used up. The first is after `count` others.
+///
+/// # Errors
+///
+/// `Damaged` where an event isn't accepted at its turn, `ShadowFull` where the room is used up.
+fn watch_events(
+    machine: &mut Machine,
+    count: u64,
+    events: &[Event],
+    shadow: &mut Shadow,
+) -> Result<(), InspectFault>
     requires few { count + length events.now < 2 ^ 64 }
-    ensures watched { OnTrue result
-        (shadow.new ≡ behind_all (of_events count events.now machine.old.state) shadow.old) }
-    ensures accepted { OnTrue result (AllAccepted events.now machine.old.state) }
-    ensures refused { OnFalse result (AllAccepted events.now machine.old.state → ⊥) }
+    requires left { is_full shadow.old ≡ false }
+    ensures watched { OnOk result
+        (shadow.new ≡ noted_all (of_events count events.now machine.old.state) shadow.old) }
+    ensures left { OnOk result (is_full shadow.new ≡ false) }
+    ensures accepted { OnOk result (AllAccepted events.now machine.old.state) }
+    ensures fault { IfErr result (IsEventsFault
+        (is_full (noted_all (of_events count events.now machine.old.state) shadow.old) ≡ true)
+        events.now machine.old.state) }
 {
     let mut done = count;
     for event in events {
         if !event.in_range() || machine.accept(0, event).is_err() {
-            return false;
+            return Err(InspectFault::Damaged);
         }
         watch_event(machine, done, event, shadow);
+        if shadow.is_full() {
+            return Err(InspectFault::ShadowFull);
+        }
         done += 1;
     }
     watch_end(machine, shadow);
-    true
+    Ok(())
 }
-
-/// How many pages a program has at most whose memory is looked at: for each there are 56 KiB.
-pub const PAGES_LIMIT: u32 = 8_192;
 
 /// How many words of memory there are, from address 0 on.
 fn words_of(machine: &Machine) -> usize
@@ -54,15 +67,31 @@ fn words_of(machine: &Machine) -> usize
     1024 * machine.memory().pages() as usize
 }
 
-/// A shadow for what a machine does behind so many events: nothing is known of what was told before. It takes 14 bytes for each of the guest's
-/// memory. It fails where the allocator refuses them, or the program has more than [`PAGES_LIMIT`] pages.
-pub fn shadow_for(alloc: Global, machine: &Machine, count: u64) -> Result<Shadow, AllocError>
-    ensures { IfOk result (λ shadow. shadow ≡ fresh_behind count machine.now.state) }
+/// How many slots a room of so many bytes has: no more than a memory of so many words has parts.
+fn slots_in(room: u64, words: usize) -> usize
+    ensures { result ≡ slots_in room words }
 {
-    if machine.memory().pages() > PAGES_LIMIT {
-        return Err(AllocError);
+    let parts = words / 1024 + 1;
+    let slots = room / PART_BYTES;
+    if slots < parts as u64 {
+        slots as usize
+    } else {
+        parts
     }
-    Shadow::new(alloc, count == 0, words_of(machine))
+}
+
+/// A shadow for what a machine does after so many events: nothing is known of what was told before. It takes 64 bytes for each page of the
+/// guest's memory, and a room of so many bytes, or of as many as a shadow of all the guest's memory takes where these are fewer.
+pub fn shadow_for(
+    alloc: Global,
+    machine: &Machine,
+    count: u64,
+    room: u64,
+) -> Result<Shadow, AllocError>
+    ensures { IfOk result (λ shadow. shadow ≡ fresh_for room count machine.now.state) }
+{
+    let words = words_of(machine);
+    Shadow::new(alloc, count == 0, words, slots_in(room, words))
 }
 
 /// Writes the errors that were found.
@@ -77,7 +106,7 @@ fn write_found<W: Write>(
     requires sound { IsSound (replay_of source.now) }
     ensures found { OnOk result (Appends (W.contents out.old) (W.contents out.new)
         (found_text (finding_text (replay_of source.now)) source.now.count
-        (source.now.count + length source.now.events.now) shadow.now.found)) }
+        (source.now.count + length source.now.events.now) shadow.now.heap.found)) }
     ensures fault { IfErr result (λ e. (e ≡ OutOfMemory) ⊎ (e ≡ Writing)) }
 {
     let findings = shadow.findings();
@@ -106,7 +135,7 @@ fn write_all_of<W: Write>(
     requires few { source.now.count + length source.now.events.now < 2 ^ 64 }
     requires sound { IsSound (replay_of source.now) }
     ensures written { OnOk result (Appends (W.contents out.old) (W.contents out.new)
-        (text_by (replay_of source.now) source.now.count shadow.now)) }
+        (text_by (replay_of source.now) source.now.count shadow.now.heap)) }
     ensures fault { IfErr result (λ e. (e ≡ OutOfMemory) ⊎ (e ≡ Writing)) }
 {
     if !shadow.is_told() {
@@ -122,20 +151,22 @@ fn write_all_of<W: Write>(
 
 /// Makes events, each of which is to be accepted at its turn, and writes their errors of memory: what is done at each place in the program
 /// once, with the first one there, and how often, or where there were none. Beneath each stand the callers of its thread, and the block that
-/// has its word, with who took it and who gave it back. Behind these stand the blocks that weren't given back, if the program has ended.
-/// The first event is behind `count` others, and nothing is known of what was told before it. It takes 14 bytes for each of the guest's
-/// memory, and six more where it looks at an error again.
+/// has its word, with who took it and who gave it back. After these stand the blocks that weren't given back, if the program has ended.
+/// The first event is after `count` others, and nothing is known of what was told before it. It takes 64 bytes for each page of the guest's
+/// memory, and a room of so many bytes for its shadow, or of 14 for each of the guest's memory where these are fewer. Where it looks at an error
+/// again it takes six more for each.
 ///
 /// # Errors
 ///
-/// `Damaged` where an event isn't accepted at its turn, `OutOfMemory` where a growth was refused or the program has more than
-/// [`PAGES_LIMIT`] pages, `Write` where the writer failed.
+/// `Damaged` where an event isn't accepted at its turn, `ShadowFull` where the events fill the room, `OutOfMemory` where a growth was refused,
+/// `Write` where the writer failed.
 pub fn write_errors<W: Write>(
     alloc: Global,
     machine: &mut Machine,
     count: u64,
     events: &[Event],
     rules: &[Rule],
+    room: u64,
     out: &mut W,
 ) -> Result<(), InspectFault>
     requires few { count + length events.now < 2 ^ 64 }
@@ -143,17 +174,18 @@ pub fn write_errors<W: Write>(
         (Appends (W.contents out.old) (W.contents out.new)
         (errors_text rules.now count events.now machine.old.state)) }
     ensures accepted { OnOk result (AllAccepted events.now machine.old.state) }
-    ensures fault { IfErr result (IsEventsFault ⊥ events.now machine.old.state) }
+    ensures left { OnOk result (FillsRoom room count events.now machine.old.state → ⊥) }
+    ensures fault { IfErr result
+        (IsEventsFault (FillsRoom room count events.now machine.old.state) events.now
+        machine.old.state) }
 {
-    let Ok(mut shadow) = shadow_for(alloc, machine, count) else {
+    let Ok(mut shadow) = shadow_for(alloc, machine, count, room) else {
         return Err(InspectFault::OutOfMemory);
     };
     let Ok(start) = copy_of(alloc, machine) else {
         return Err(InspectFault::OutOfMemory);
     };
-    if !watch_events(machine, count, events, &mut shadow) {
-        return Err(InspectFault::Damaged);
-    }
+    watch_events(machine, count, events, &mut shadow)?;
     let source = Source {
         rules,
         count,

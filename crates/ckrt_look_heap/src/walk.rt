@@ -7,7 +7,7 @@ ghost use Rattle.ckrt_machine.specs.Runs.{run_on, with_byte};
 ghost use Rattle.ckrt_machine.specs.Steps.{hart_step};
 ghost use Rattle.ckrt_look_calls.specs.Events.{state_behind};
 ghost use Rattle.ckrt_look_calls.specs.Lines.{MayStep, put_before};
-ghost use Rattle.ckrt_look_heap.specs.Shadow.{behind_all};
+ghost use Rattle.ckrt_look_heap.specs.Within.{noted_all};
 ghost use Rattle.ckrt_look_heap.specs.Steps.{at, has_ended, of_end, of_event, of_rest, of_run, of_step};
 
 use crate::notes::watch_notes;
@@ -25,7 +25,7 @@ fn watch_step(machine: &mut Machine, place: Place, hart: u8, is_first: bool, sha
     ensures output { machine.new.output
         ≡ with_byte (hart_step hart machine.old.state).put (put_before is_first machine.old) }
     ensures watched { shadow.new
-        ≡ behind_all (of_step place hart machine.old.state) shadow.old }
+        ≡ noted_all (of_step place hart machine.old.state) shadow.old }
 {
     if is_quiet(machine, hart) {
         watch_notes(machine, place, hart, shadow);
@@ -41,7 +41,7 @@ fn watch_steps(machine: &mut Machine, made: Place, hart: u8, limit: u32, shadow:
     ensures state { machine.new.state
         ≡ state_behind (limit - made.step) hart machine.old.state machine.old.output }
     ensures watched { shadow.new
-        ≡ behind_all (of_rest made.event (limit - made.step) made.step hart machine.old.state
+        ≡ noted_all (of_rest made.event (limit - made.step) made.step hart machine.old.state
         machine.old.output) shadow.old }
 {
     for step in made.step..limit {
@@ -63,7 +63,7 @@ fn watch_run(machine: &mut Machine, event: u64, hart: u8, limit: u32, shadow: &m
     requires accepted { refusal_of 0 (Run hart 1) machine.old.state ≡ None }
     ensures state { machine.new.state ≡ (run_on limit hart machine.old.state []).state }
     ensures watched { shadow.new
-        ≡ behind_all (of_run event limit 0 hart machine.old.state []) shadow.old }
+        ≡ noted_all (of_run event limit 0 hart machine.old.state []) shadow.old }
 {
     watch_step(machine, Place { event, step: 0 }, hart, true, shadow);
     watch_steps(machine, Place { event, step: 1 }, hart, limit, shadow);
@@ -85,7 +85,7 @@ pub fn watch_event(machine: &mut Machine, count: u64, event: &Event, shadow: &mu
     requires accepted { refusal_of 0 event.now machine.old.state ≡ None }
     ensures state { machine.new.state ≡ (step event.now machine.old.state).state }
     ensures watched { shadow.new
-        ≡ behind_all (of_event count event.now machine.old.state) shadow.old }
+        ≡ noted_all (of_event count event.now machine.old.state) shadow.old }
 {
     match event {
         Event::Run(hart, limit) => watch_run(machine, count, *hart, u32::from(*limit), shadow),
@@ -106,7 +106,7 @@ fn has_ended(status: Status) -> bool
 
 /// The end of all events.
 pub(crate) fn watch_end(machine: &Machine, shadow: &mut Shadow)
-    ensures { shadow.new ≡ behind_all (of_end machine.now.state) shadow.old }
+    ensures { shadow.new ≡ noted_all (of_end machine.now.state) shadow.old }
 {
     shadow.end(has_ended(machine.tables().status));
 }

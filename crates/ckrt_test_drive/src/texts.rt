@@ -663,6 +663,11 @@ const UNFIT: &[Told] = &[
         "--from is above --to: give another, or leave it out\nckrt: Range\n",
     ),
     (
+        "check d --memory 1048575",
+        JobFault::Range,
+        "--memory 1048575 isn't 1048576 or more: give another, or leave it out\nckrt: Range\n",
+    ),
+    (
         "profile d --from 2 --to 1",
         JobFault::Range,
         "--from is above --to: give another, or leave it out\nckrt: Range\n",

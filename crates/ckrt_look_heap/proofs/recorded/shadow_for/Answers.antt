@@ -1,11 +1,12 @@
-use Rattle.std.proofs.Common.{◌≡◌, ◌==◌, ◌∙◌, ap}
+use Rattle.std.proofs.Common.{◌≡◌, ◌∙◌, ◌==◌, ap}
 use Rattle.std.proofs.lemmas.Result.{IfOk-weaker}
-use Rattle.ckrt_look_heap.specs.Shadow.{Heap, fresh}
-use Rattle.ckrt_look_heap.specs.Recorded.{fresh_behind}
+use Rattle.ckrt_look_heap.specs.Recorded.{slots_in, words_of}
+use Rattle.ckrt_look_heap.specs.Within.{Noted, fresh_within}
 use Rattle.ckrt_look_heap.proofs.recorded.shadow_for.Goals as goal
 
 -- with a word for each of the memory
 pub returns : goal.returns
 returns c =
-    IfOk-weaker c.new.result _ (λ (h : Heap). h ≡ fresh_behind c.args.count c.args.machine.now.state)
-    (λ h is. is ∙ ap (λ n. fresh (c.args.count == 0) n) c.words_of.ensures) c.new.ensures
+    let room = c.args.room in let whole = c.args.count == 0 in let words = words_of c.args.machine.now.state in
+    IfOk-weaker c.new.result _ (λ (s : Noted). s ≡ fresh_within whole words (slots_in room words))
+    (λ s is. is ∙ ap (λ k. fresh_within whole c.words_of-words.result k) c.slots_in.ensures ∙ ap (λ n. fresh_within whole n (slots_in room n)) c.words_of-words.ensures) c.new.ensures

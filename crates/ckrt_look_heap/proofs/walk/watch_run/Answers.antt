@@ -1,6 +1,6 @@
 use Rattle.std.proofs.Common.{◌≡◌, ◌∙◌, ◌-◌, ℕ, suc, ap, arith}
 use Rattle.ckrt_look_calls.proofs.RunLemmas.{run_is}
-use Rattle.ckrt_look_heap.specs.Shadow.{Heap, behind_all}
+use Rattle.ckrt_look_heap.specs.Within.{Noted, noted_all}
 use Rattle.ckrt_look_heap.specs.Steps.{of_rest}
 use Rattle.ckrt_look_heap.proofs.WalkLemmas.{run_watched}
 use Rattle.ckrt_look_heap.proofs.walk.watch_run.Goals as goal
@@ -18,5 +18,5 @@ returns-clause-watched c =
     let n : ℕ = c.args.limit - 1 in
     let all : suc n ≡ c.args.limit = omega arith in
     let m = c.watch_step.new.machine in
-    c.watch_steps.ensures.watched ∙ ap (λ (w : Heap). behind_all (of_rest c.args.event n 1 c.args.hart m.state m.output) w) c.watch_step.ensures.watched
+    c.watch_steps.ensures.watched ∙ ap (λ (w : Noted). noted_all (of_rest c.args.event n 1 c.args.hart m.state m.output) w) c.watch_step.ensures.watched
     ∙ run_watched c.args.event n c.args.limit c.args.hart c.args.machine.now.state m.state m.output c.args.shadow.now all c.watch_step.ensures.state c.watch_step.ensures.output

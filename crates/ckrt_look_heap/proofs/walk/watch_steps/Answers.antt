@@ -3,7 +3,7 @@ use Rattle.ckrt_machine.specs.Runs.{stop_of, with_byte}
 use Rattle.ckrt_machine.specs.Steps.{State, hart_step}
 use Rattle.ckrt_look_calls.specs.Events.{state_behind}
 use Rattle.ckrt_look_calls.proofs.RunLemmas.{is_going, state_next}
-use Rattle.ckrt_look_heap.specs.Shadow.{Heap, behind_all}
+use Rattle.ckrt_look_heap.specs.Within.{Noted, noted_all}
 use Rattle.ckrt_look_heap.specs.Steps.{at, of_rest, of_step}
 use Rattle.ckrt_look_heap.proofs.BehindLemmas.{behind_both}
 use Rattle.ckrt_look_heap.proofs.WalkLemmas.{rest_next}
@@ -41,12 +41,12 @@ loop-step-preserved c =
     let behind : of_rest k n (i + 1) h new.state new.output ≡ of_rest k n (suc i) h e.state (with_byte e.put m.output) =
     ap (λ (s : State). of_rest k n (i + 1) h s new.output) state ∙ ap (λ out. of_rest k n (i + 1) h e.state out) output
     ∙ ap (λ j. of_rest k n j h e.state (with_byte e.put m.output)) next in
-    let parts : behind_all (of_rest k (limit - i) i h m.state m.output) w ≡ behind_all (of_rest k n (i + 1) h new.state new.output) (behind_all (of_step (at k i) h m.state) w) =
-    ap (λ j. behind_all (of_rest k j i h m.state m.output) w) left ∙ ap (λ l. behind_all l w) (rest_next k n i h m.state m.output going)
+    let parts : noted_all (of_rest k (limit - i) i h m.state m.output) w ≡ noted_all (of_rest k n (i + 1) h new.state new.output) (noted_all (of_step (at k i) h m.state) w) =
+    ap (λ j. noted_all (of_rest k j i h m.state m.output) w) left ∙ ap (λ l. noted_all l w) (rest_next k n i h m.state m.output going)
     ∙ behind_both (of_step (at k i) h m.state) (of_rest k n (suc i) h e.state (with_byte e.put m.output)) w
-    ∙ ap (λ l. behind_all l (behind_all (of_step (at k i) h m.state) w)) (sym behind) in
+    ∙ ap (λ l. noted_all l (noted_all (of_step (at k i) h m.state) w)) (sym behind) in
     record {
       within = omega arith;
       state = is ∙ so_far.state;
-      watched = ap (λ (v : Heap). behind_all (of_rest k n (i + 1) h new.state new.output) v) c.watch_step.ensures.watched ∙ sym parts ∙ so_far.watched;
+      watched = ap (λ (v : Noted). noted_all (of_rest k n (i + 1) h new.state new.output) v) c.watch_step.ensures.watched ∙ sym parts ∙ so_far.watched;
     }

@@ -1,6 +1,6 @@
 use Rattle.std.proofs.Common.{◌≡◌, ◌-◌, ◌≤◌}
 use Rattle.ckrt_look_calls.specs.Events.{state_behind}
-use Rattle.ckrt_look_heap.specs.Shadow.{behind_all}
+use Rattle.ckrt_look_heap.specs.Within.{noted_all}
 use Rattle.ckrt_look_heap.specs.Steps.{of_rest}
 use Rattle.ckrt_look_heap.proofs.walk.watch_steps.Given as goal
 
@@ -9,6 +9,6 @@ abbrev pub invariant-loop-step : goal.invariant-loop-step
 invariant-loop-step l = record {
   within : l.step ≤ l.limit;
   state : state_behind (l.limit - l.step) l.hart l.machine.state l.machine.output ≡ state_behind (l.limit - l.made.step) l.hart l.fn.machine.state l.fn.machine.output;
-  watched : behind_all (of_rest l.made.event (l.limit - l.step) l.step l.hart l.machine.state l.machine.output) l.shadow
-      ≡ behind_all (of_rest l.made.event (l.limit - l.made.step) l.made.step l.hart l.fn.machine.state l.fn.machine.output) l.fn.shadow;
+  watched : noted_all (of_rest l.made.event (l.limit - l.step) l.step l.hart l.machine.state l.machine.output) l.shadow
+      ≡ noted_all (of_rest l.made.event (l.limit - l.made.step) l.made.step l.hart l.fn.machine.state l.fn.machine.output) l.fn.shadow;
 }
