@@ -23,6 +23,7 @@ from cases.images import ImagesCase, difference_of_images
 from cases.inputs import InputsCase, difference_of_inputs
 from cases.kinds import KINDS, Case, case_of
 from cases.lived import LivedCase, difference_of_lived
+from cases.lockers import LockersCase
 from cases.many import ManyCase, difference_of_many
 from cases.mixed import MixedCase, difference_of_mixed
 from cases.moved import MovedCase, difference_of_moved
@@ -38,6 +39,7 @@ from cases.traced_runs import difference_of_cut, difference_of_lists, difference
 from cases.words import NAMED, NAMES, OWN_NAMES, WordsCase
 from model.abi import KEY_CALLS, Call
 from model.call_lines import History, kind_of_line, lines_before_refused
+from model.cycle_texts import all_told
 from model.layout import Geometry, format_disk
 from model.lines import serve_disk
 from model.listing import OutOfRange, listing
@@ -229,7 +231,8 @@ def expected_of_words(case, contents, image):
     if case.command == "run":
         return 0, b"", None
     if case.command == "races":
-        return 0, "".join(line + "\n" for line in Recording(bytearray(contents)).show(Readings()).lines()).encode(), None
+        recording = Recording(bytearray(contents))
+        return 0, "".join(line + "\n" for line in all_told(recording, recording.show(Readings()))[0]).encode(), None
     if case.command == "calls":
         shown = calls_of_model(History(bytearray(contents)), (case.options["from"], case.options["to"]))
     else:
@@ -328,7 +331,7 @@ def difference_behind_cut(ckrt, case, path, tally):
 OF_DISK = {
     MovedCase: difference_of_moved, SteppedCase: difference_of_stepped, LivedCase: difference_of_lived, DebuggedCase: difference_of_debugged,
     ListingsCase: difference_of_listings, HistoriesCase: difference_of_histories, TimelinesCase: difference_of_timelines,
-    ProfilesCase: difference_of_profiles, RacesCase: difference_of_races, NestedCase: difference_of_races, ChecksCase: difference_of_checks, CutCase: difference_behind_cut,
+    ProfilesCase: difference_of_profiles, RacesCase: difference_of_races, NestedCase: difference_of_races, LockersCase: difference_of_races, ChecksCase: difference_of_checks, CutCase: difference_behind_cut,
 }
 OF_FOLDER = {
     FormatCase: difference_of_format, TimedCase: difference_of_timed, RacedCase: difference_of_raced, HuntsCase: difference_of_hunts,

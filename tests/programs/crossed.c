@@ -33,12 +33,12 @@
 
 static pthread_mutex_t locks[COUNT];
 static pthread_mutex_t gate = PTHREAD_MUTEX_INITIALIZER;
-static pthread_rwlock_t shared[2] = {PTHREAD_RWLOCK_INITIALIZER, PTHREAD_RWLOCK_INITIALIZER};
-static pthread_rwlock_t door = PTHREAD_RWLOCK_INITIALIZER;
-static pthread_cond_t condition = PTHREAD_COND_INITIALIZER;
+static __attribute__((unused)) pthread_rwlock_t shared[2] = {PTHREAD_RWLOCK_INITIALIZER, PTHREAD_RWLOCK_INITIALIZER};
+static __attribute__((unused)) pthread_rwlock_t door = PTHREAD_RWLOCK_INITIALIZER;
+static __attribute__((unused)) pthread_cond_t condition = PTHREAD_COND_INITIALIZER;
 static pthread_spinlock_t spins[2];
 static sem_t turns[COUNT + 1];
-static int is_seen;
+static __attribute__((unused)) int is_seen;
 
 static void both(pthread_mutex_t *first, pthread_mutex_t *second) {
     pthread_mutex_lock(first);

@@ -5,9 +5,10 @@ import subprocess
 from dataclasses import dataclass
 
 from cases.histories import disk_with_stretches, is_turned
-from model.beneath import BLANKS, lines_told
+from model.beneath import BLANKS
 from model.callers import text_of_names
 from model.columns import is_dense
+from model.cycle_texts import all_told, lines_of_cycles
 from model.layout import note_of
 from model.listing import OutOfRange
 from model.other_rules import AS_ONE, BEFORE_STORES, BEHIND_LOADS, BOTH_SIDES, GIVEN_LATER, LOADS_ORDER, STAYS, STORES_ORDER
@@ -115,15 +116,18 @@ def difference_of_races(ckrt, case, path, tally):
     rows = getattr(case, "rows", ())
     options = names_beside(path, case, rows) if rows else []
     for stretch in case.stretches:
-        readings, fault = shown(recording, unrecovered, stretch, Readings())
+        readings, fault = shown(recording, unrecovered, stretch, Readings(rows))
         lines = readings.lines() if readings else []
         tally["races", "left open" if lines is None else fault.fault[6:] if fault else "shown"] += 1
         if lines is None:
+            difference = difference_of_cycles(ckrt, path, stretch, options, readings)
+            if difference:
+                return difference
             continue
         tally.update(("line of races", kind_of_race(line)) for line in lines)
         if readings:
             tell_met(readings, lines, tally)
-        narrow, wide = lines_told(recording, readings, stretch, rows) if readings else ([], [])
+        narrow, wide = all_told(recording, readings, stretch, rows) if readings else ([], [])
         tally["block of a race", "left open" if narrow != wide else "compared"] += 1
         tally.update(("line beneath a race", kind_of_beneath(line)) for line in narrow if line.startswith(BLANKS))
         got = glance_of_program(ckrt, "races", path, stretch, *options)
@@ -131,6 +135,13 @@ def difference_of_races(ckrt, case, path, tally):
         if got not in (expected, other):
             return f"races (from, to {stretch}): {place_of_difference(expected, got)}"
     return None if path.read_bytes() == case.contents else "races changed the disk's bytes"
+
+
+def difference_of_cycles(ckrt, path, stretch, options, readings):
+    """Where the page leaves races open the lines behind them are compared."""
+    cycles, got = lines_of_cycles(readings.locks.known, readings.narrow.stretch), glance_of_program(ckrt, "races", path, stretch, *options)
+    told = got.text.splitlines()[-len(cycles):]
+    return None if told == cycles and not got.status else f"cycles (from, to {stretch}): model {cycles}, program {told}"
 
 
 def tell_met(readings, lines, tally):

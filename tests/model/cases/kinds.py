@@ -21,6 +21,7 @@ from cases.inputs import inputs_case
 from cases.kitted import Kitted, kit_case
 from cases.limits import limit_case
 from cases.lived import Living, lived_case
+from cases.lockers import cycles_case
 from cases.many import many_case
 from cases.mixed import mixed_case
 from cases.moved import moved_case
@@ -254,7 +255,8 @@ KINDS = {
     "disks": disks_case, "killed": killed_case, "limits": limits_case, "saved": saved_case, "tables": tables_case,
     "stopped": stopped_case, "checkpoints": checkpoints_case, "formats": format_case, "lists": of_guest(lists_case),
     "fates": of_guest(fates_case), "parts": of_guest(parts_case), "listings": of_guest(listings_case), "cuts": cuts_case,
-    "histories": of_guest(histories_case), "races": of_guests(PartSharer, races_case, 0.9), "kit": kitted_case, "orders": orders_case, "nested": nested_case, "checks": checks_case,
+    "histories": of_guest(histories_case), "races": of_guests(PartSharer, races_case, 0.9), "kit": kitted_case, "orders": orders_case, "nested": nested_case, "cycles": cycles_case,
+    "checks": checks_case,
     "timelines": of_sharers(timelines_case, 0.4),
     "hunts": hunts_case, "debugged": of_sharers(debugged_case, 0.4), "moved": of_sharers(moved_case, 0.6),
     "stepped": of_sharers(stepped_case, 0.6),

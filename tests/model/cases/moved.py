@@ -9,6 +9,7 @@ from cases.mistakes import drawn_mistake
 from model.mistyped import HELP, LIST, answer_to, kinds_of_mistakes, text_of_packet, with_lists
 from model.motions import ACCESSES, BEGIN, CHANGES, END, LOADS, Steps, Stops, backward, named, next_step, onward, text_of_stop, thread_of_stop, threads_at
 from model.stubs import answers_in, frame, is_answered, line_of_events, monitor, position_text, shown_at_first
+from model.threads import Status
 
 MOTIONS = {"vCont;c": onward, "bc": backward}
 
@@ -38,6 +39,13 @@ def steps_of(recording):
     looker = recording.show(Steps())
     looker.end_event()
     return looker.steps
+
+
+def ender_of(recording):
+    """The thread that ended the program, by the last step; None where it hasn't ended."""
+    looker = Steps()
+    machine = recording.made_up_to(looker)
+    return None if machine.status is Status.RUNNING or not looker.steps else looker.steps[-1].thread
 
 
 def moved_case(chance, case):
@@ -85,6 +93,11 @@ def named_at(steps, place, before):
     return named(step and step.thread, threads_at(steps, place), before)
 
 
+def before_end(answer, ender, before):
+    """Whom a stop names where nobody's step is next: after the end of a program the thread that ended it."""
+    return ender if answer == END and ender is not None else before
+
+
 def told_at(answer, thread):
     """At an end of the history the thread is named that a stop there names."""
     return text_of_stop(answer, thread) if answer in (BEGIN, END) else answer
@@ -93,7 +106,7 @@ def told_at(answer, thread):
 def expected_motions(case, recording):
     """Of each packet the answer, with what the console is told."""
     steps, ends = steps_of(recording), ((recording.first, 0), (recording.whole, 0))
-    place, before = place_at_first(recording)
+    (place, before), ender = place_at_first(recording), ender_of(recording)
     expected = [("", "OK")] * (1 + len(case.stops.packets()))
     for begin, motions in case.ways:
         if begin is not None:
@@ -102,7 +115,7 @@ def expected_motions(case, recording):
         for motion in motions:
             if motion in MOTIONS:
                 place, answer = MOTIONS[motion](steps, case.stops, place, ends[motion == "vCont;c"])
-                answer = told_at(answer, named_at(steps, place, before))
+                answer = told_at(answer, named_at(steps, place, before_end(answer, ender, before)))
                 before = thread_of_stop(answer)
                 expected.append(("", answer))
             else:

@@ -1,18 +1,20 @@
 """Cases of `ckrt hunt --races`: each seed's run is kept as it was drawn, and its disk has the races that are told; then the tables of all
 seeds, with races and without, and a disk for each outcome."""
 from dataclasses import dataclass, replace
+from random import Random
 
 from cases.glances import glance_of_lines, glance_of_program, kind_of_race
 from cases.hunted import HuntsCase, hunt, hunts_case, kept_run
+from cases.lockers import Locker
 from model.abi import Call
 from model.assembler import Label, Program, call_words, image_of, immediate_form, load_number, store_form
-from model.beneath import lines_told
+from model.cycle_texts import all_told
 from model.hunts import line_of_kept, lines_of_table, rows_of_outcomes, said_of, shown_of, status_of
-from model.race_rows import lines_of_races
+from model.race_rows import CYCLES, lines_of_found
 from model.races import Readings
 
 WORDS, MUTEX = 0x2800, 0x2000
-ROWS = "race ", "other races", "no races"
+ROWS = "race ", "other races", "no races", "lock cycle ", "other lock cycles", "no lock cycles"
 SHORTEST_PIECE, LONGEST_PIECE = 5, 40  # in words, without a lock between
 
 
@@ -56,6 +58,9 @@ class RacedCase(HuntsCase):
 def raced_case(chance, seed):
     case = hunts_case(chance, seed)
     image = Crossing(chance).image if chance.random() < 0.4 else case.image
+    others = Random(f"waits {seed}")
+    if others.random() < 0.3:
+        image = Locker(others, others.choice(["drawn", "drawn", "ring", "places"])).image
     return RacedCase(image, case.seeds, replace(case.options, is_raced=True), case.input)
 
 
@@ -77,21 +82,25 @@ def table_of(runs, options):
 
 def tables_of(runs, options):
     """The status and the lines that a hunt of these runs tells, by each reading of their races."""
-    outcomes = {seed: run.outcome for seed, run in runs.items()}
+    outcomes, cycles = [run.outcome for run in runs.values()], [run.readings.locks.known.cycles for run in runs.values()]
     told = []
     for races in ({seed: run.readings.narrow for seed, run in runs.items()}, {seed: run.readings.wide for seed, run in runs.items()}):
-        lines = [*table_of(runs, options), *lines_of_races("image", races, options)]
-        told.append((status_of(outcomes.values(), races.values()), lines))
+        lines = [*table_of(runs, options), *lines_of_found("image", races, options), *lines_of_cycles(runs, options)]
+        told.append((status_of(outcomes, [*(one.pairs for one in races.values()), *cycles]), lines))
     return told
 
 
+def lines_of_cycles(runs, options):
+    return lines_of_found("image", {seed: run.readings.locks.known for seed, run in runs.items()}, options, CYCLES)
+
+
 def difference_of_told(shown, runs, options, kept=()):
-    """None, or where the two differ; of races that the page leaves open the lines of outcomes alone are compared."""
+    """None, or where the two differ; where the page leaves races open all other lines are compared."""
     narrow, wide = tables_of(runs, options)
     status, lines = shown
     if narrow != wide:
-        wanted = table_of(runs, options)
-        return None if lines[:len(wanted)] == wanted else f"model {wanted}, program {lines}"
+        wanted, last = table_of(runs, options), [*lines_of_cycles(runs, options), *kept]
+        return None if lines[:len(wanted)] == wanted and lines[-len(last):] == last else f"model {wanted}, {last}, program {lines}"
     wanted = [*narrow[1], *kept]
     if (status, lines) == (narrow[0], wanted):
         return None
@@ -103,7 +112,7 @@ def difference_of_glance(ckrt, disk, recording, readings):
     """The disk has the very races that are told of its seed, with what stands beneath them."""
     if readings.lines() is None:
         return None
-    told, got = lines_told(recording, readings), glance_of_program(ckrt, "races", disk, (None, None))
+    told, got = all_told(recording, readings), glance_of_program(ckrt, "races", disk, (None, None))
     return None if got in map(glance_of_lines, told) else f"races of its disk: model {told[0]}, program {got}"
 
 

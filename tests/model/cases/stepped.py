@@ -7,7 +7,7 @@ from cases.debugged import TIME_LIMIT
 from cases.glances import recording_of
 from cases.histories import recorded_disk
 from cases.mistakes import drawn_mistake, spelled
-from cases.moved import drawn_watch, place_at_first, steps_of, told_at, words_at_first
+from cases.moved import before_end, drawn_watch, ender_of, place_at_first, steps_of, told_at, words_at_first
 from model.mistyped import HELP, LIST, kinds_of_mistakes, text_of_packet, with_lists
 from model.motions import (CHANGE, Stops, backward, end_of_steps, named, next_step, onward, own_step, stepped, stepped_back, text_of_stop,
                            thread_of_stop, threads_at)
@@ -37,7 +37,7 @@ class Way:
 
     def __init__(self, chance, recording, steps, stops):
         self.chance, self.steps, self.stops = chance, steps, stops
-        self.first, self.whole = recording.first, recording.whole
+        self.first, self.whole, self.ender = recording.first, recording.whole, ender_of(recording)
         self.asked = [(packet, ("", "OK")) for packet in stops.packets()]
         (self.place, self.named), self.until, self.limit = place_at_first(recording), None, None
         self.counts = Counter(step.before[0] for step in steps)
@@ -120,9 +120,10 @@ class Way:
         return self.ended(*stepped(*arguments, last, thread), True, thread, own and own.before)
 
     def ended(self, came, answer, is_onward, before, passed=None):
-        """With the thread that the stop names: where nobody's step is next the one before, which was to step, or that of the last stop."""
+        """With the thread that the stop names: where nobody's step is next the one before, which was to step, or that of the last stop; or that
+        which ended the program."""
         came, answer = self.bounded(came, answer, is_onward, passed)
-        thread = self.named_at(came, before)
+        thread = self.named_at(came, before_end(answer, self.ender, before))
         return came, text_of_stop(answer, thread) if answer in (UNTIL, LIMIT) else told_at(answer, thread)
 
     def bounds(self, is_onward):

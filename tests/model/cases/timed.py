@@ -8,9 +8,9 @@ from dataclasses import dataclass, replace
 from random import Random
 
 from cases.hunted import TIME_LIMIT, Hunted
-from model.hunts import (MOST_OUTCOMES, MOST_SEEDS, SAID, SEVERAL, Options, Row, command_of, fold, kind_of, line_of_kept, lines_of_rows, said_of,
+from model.hunts import (MOST_OUTCOMES, MOST_SEEDS, SAID, Options, Row, command_of, fold, kind_of, line_of_kept, lines_of_rows, said_of,
                          shown_of, status_of, text_of_outcome, told_of)
-from model.race_rows import difference_of_rows, rows_of_races, split_table
+from model.race_rows import CYCLES, difference_of_found, rows_of_found, split_table
 from model.races import Readings
 from model.stretches import Recording
 
@@ -72,11 +72,11 @@ def outcomes_of(lines, options):
 
 
 def rows_of(table, options):
-    """The outcomes of a table, the number of all runs, and its races, where these are asked for; None where it is none."""
-    lines, races = split_table(table) if options.is_raced else (table, [])
+    """The outcomes of a table, the number of all runs, and its rows of races and of cycles of locks, where these are asked for; None where it is none."""
+    lines, races, cycles = split_table(table) if options.is_raced else (table, [], [])
     read = outcomes_of(lines, options)
-    rows = rows_of_races(races, options, read[1]) if read and options.is_raced else []
-    return None if read is None or rows is None else (*read, rows)
+    rows = [rows_of_found(races, options, read[1]), rows_of_found(cycles, options, read[1], CYCLES)] if read and options.is_raced else [[], []]
+    return None if read is None or None in rows else (*read, rows)
 
 
 def difference_of_progress(lines, found, first, total, seconds):
@@ -123,21 +123,23 @@ def difference_of_timed(ckrt, case, folder, tally):
     read = rows_of(whole, case.options)
     if read is None:
         return f"no table: {whole[:6]}"
-    found, total, races = read
-    wanted = [*lines_of_rows("image", found, total, case.options, case.has_rows), *(split_table(whole)[1] if case.options.is_raced else [])]
+    found, total, (races, cycles) = read
+    told = [line for part in split_table(whole)[1:] for line in part] if case.options.is_raced else []
+    wanted = [*lines_of_rows("image", found, total, case.options, case.has_rows), *told]
     tally["hunt by time", "outputs without lines"] += len(found) - len(shown_of(found, case.has_rows))
     if table != wanted:
         return f"table: model {wanted}, program {table}"
     tally["hunt by time", "several" if len(found) > 1 else "one outcome"] += 1
     tally["hunt by time", "line of progress"] += len(errors)
     tally["hunt by time", "row of a race"] += len(races)
-    if took < SECONDS or status != (SEVERAL if races else status_of([one.text for one in found])):
-        return f"{took:.2f} seconds, status {status} with {len(found)} outcomes and {len(races)} races"
+    tally["hunt by time", "row of a cycle of locks"] += len(cycles)
+    if took < SECONDS or status != status_of([one.text for one in found], [races, cycles]):
+        return f"{took:.2f} seconds, status {status} with {len(found)} outcomes, {len(races)} races and {len(cycles)} cycles of locks"
     def text_of(seed):
         return outcomes_of(run_hunt(ckrt, case, folder, "--seeds", f"{seed}-{seed}")[1], case.options)[0][0].text if not case.options.is_raced else None
 
     return (difference_of_refused(ckrt, case, folder) or difference_of_progress(errors, found, 1, total, took)
-            or difference_of_disks(case, kept, found, races, lines[len(table):], text_of)
+            or difference_of_disks(case, kept, found, (races, cycles), lines[len(table):], text_of)
             or difference_of_range(ckrt, case, folder, (status, table), total))
 
 
@@ -147,9 +149,9 @@ def with_rows(ckrt, case, folder, table):
     return run_hunt(ckrt, case, folder, "--seeds", f"1-{read[3]}", "--rows")[1] if read else table
 
 
-def difference_of_disks(case, kept, found, races, told, text_of=None):
+def difference_of_disks(case, kept, found, rows, told, text_of=None):
     """What is kept: a run that comes to what the first seed comes to, or one of each outcome that has a line; where races are asked for the first
-    seed's as it was drawn, with its races. The outcome of another seed is looked at too. The disks are taken away."""
+    seed's as it was drawn, with its races and cycles of locks. The outcome of another seed is looked at too. The disks are taken away."""
     if case.keep is None:
         return None if not told else f"nothing is kept: {told}"
     is_folder = case.keep.endswith("/")
@@ -164,7 +166,7 @@ def difference_of_disks(case, kept, found, races, told, text_of=None):
         if read is None or (read[2] is None) != case.options.is_raced:
             return f"no line of such a disk: {line}"
         seed, drawn, among = int(read[1]), read[2], int(read[3] or 1)
-        difference = difference_of_rows(races, one.first, recording.show(Readings())) if case.options.is_raced else None
+        difference = difference_of_found(rows, one.first, recording.show(Readings())) if case.options.is_raced else None
         if difference:
             return f"races on {path.name}: {difference}"
         text = text_of_outcome(folded, case.options.steps, case.options.ignores_output)

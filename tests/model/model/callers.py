@@ -32,10 +32,14 @@ def word_at(memory, address):
 
 
 def callers_of(machine, thread_id, rows):
-    """Where the calls stand that led to the thread's next instruction, the innermost first: until no row is, or no memory. What a caller had in
-    register 1 isn't known."""
-    thread, memory, found = machine.threads[thread_id], machine.memory, []
-    at, registers = thread.pc, {1: thread.registers[1], 2: thread.registers[2], 8: thread.registers[8]}
+    """Where the calls stand that led to the thread's next instruction, the innermost first."""
+    thread = machine.threads[thread_id]
+    return callers_from(machine.memory, thread.pc, thread.registers, rows)
+
+
+def callers_from(memory, at, registers, rows):
+    """Until no row is, or no memory. What a caller had in register 1 isn't known."""
+    found, registers = [], {number: registers[number] for number in (1, 2, 8)}
     while len(found) < MOST:
         row = next((row for row in rows if row.begin <= at < row.begin + row.length), None)
         if row is None:

@@ -216,9 +216,9 @@ def lines_of_table(image, outcomes, options, said=None, has_rows=False):
 
 
 def status_of(outcomes, found=()):
-    """Of the outcomes of all runs, and of their races."""
+    """Of the outcomes of all runs, and of what was found in each by a look at races."""
     kinds = {KINDS[kind_of(outcome)] for outcome in outcomes}
-    if len(set(outcomes)) > 1 or any(races.pairs for races in found):
+    if len(set(outcomes)) > 1 or any(found):
         return SEVERAL
     return 0 if kinds == {"exit 0"} else BAD
 

@@ -5,6 +5,7 @@ from dataclasses import dataclass
 from model.accesses import Access, Shadow, access_of, given_anew, is_fence_of_thread, is_of_kit
 from model.clocks import Clocks
 from model.listing import address_text
+from model.lock_steps import LockSteps, Waits
 from model.orders import Before, Orders
 from model.other_rules import Watched
 from model.stretches import next_word, plain_thread
@@ -105,10 +106,11 @@ def text_of_access(access):
 
 
 class Readings:
-    """Looks on, and finds the races by the narrow reading and by the wide one. `met` counts what the rules about a kit leave out."""
+    """Looks on, and finds the races by the narrow reading and by the wide one, and the cycles of locks. `met` counts what the rules about a kit leave
+    out; by the rows of names callers are found."""
 
-    def __init__(self):
-        self.narrow, self.wide = Races(False), Races(True)
+    def __init__(self, rows=()):
+        self.narrow, self.wide, self.locks = Races(False), Races(True), LockSteps(rows)
         self.event, self.met = 0, Counter()
 
     def begin(self, machine, stretch):
@@ -124,9 +126,11 @@ class Readings:
             self.look_at_plain(machine, thread_id, (self.event, step))
             return make()
         before = Before(machine, None if hart is None else machine.harts[hart])
+        waits = Waits(machine)
         made = make()
         for races in (self.narrow, self.wide):
             races.orders.hand_on(before, machine)
+        self.locks.note(before, waits, machine, (self.event, step))
         return made
 
     def look_at_plain(self, machine, thread_id, position):

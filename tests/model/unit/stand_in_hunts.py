@@ -1,13 +1,13 @@
 """A `ckrt hunt --races` made of the model, to try the comparison with; and wrong ones, which it has to find.
 
 What schedule a seed draws isn't compared, so here it is that of a drive by lots, but for whom a hart gets: the planned thread, since a hunt's
-turns have no owners. The races of runs are told by a tally that takes one run after the other.
+turns have no owners. The races and the cycles of locks of runs are told by tallies that take one run after the other.
 """
 from dataclasses import replace
 from functools import lru_cache
 
 from cases.glances import Glance
-from model.beneath import lines_told
+from model.cycle_texts import all_told, cycle_text
 from model.devices import MemoryDisk
 from model.events import Place, Run
 from model.feeding import next_input, taken_by
@@ -54,15 +54,19 @@ def folded(disk):
 
 
 @lru_cache(maxsize=None)
+def readings_of(disk):
+    return Recording(bytearray(disk)).show(Readings())
+
+
 def races_of(disk):
-    return Recording(bytearray(disk)).show(Readings()).narrow
+    return readings_of(disk).narrow
 
 
 @lru_cache(maxsize=None)
 def lines_of_races(disk):
     """With what stands beneath each."""
     recording = Recording(bytearray(disk))
-    return lines_told(recording, recording.show(Readings()))[0]
+    return all_told(recording, recording.show(Readings()))[0]
 
 
 class Row:
@@ -72,7 +76,7 @@ class Row:
 
 class Tally:
     """Takes the races of one run after the other."""
-    room = PAIRS
+    room, name, names = PAIRS, "race", "races"
 
     def __init__(self):
         self.rows, self.runs, self.others = {}, 0, 0
@@ -80,9 +84,15 @@ class Tally:
     def key(self, pair):
         return frozenset([pair.first.place, pair.second.place])
 
+    def found(self, races):
+        return races.pairs
+
+    def text(self, pair):
+        return text_of_pair(pair)
+
     def take(self, seed, races):
         left = races.others
-        for pair in races.pairs.values():
+        for pair in self.found(races).values():
             if self.key(pair) not in self.rows and len(self.rows) == self.room:
                 left += pair.count
             else:
@@ -102,29 +112,44 @@ class Tally:
     def lines(self, options):
         lines = []
         for number, row in enumerate(self.ordered(), 1):
-            lines += [f"race {number}: {row.count} of {self.runs} runs, first by seed {row.seed}: {text_of_pair(row.pair)}",
+            lines += [f"{self.name} {number}: {row.count} of {self.runs} runs, first by seed {row.seed}: {self.text(row.pair)}",
                       f"    {command_of('image', row.seed, options)}"]
-        lines += [f"other races: in {self.others} of {self.runs} runs"] if self.others else []
-        return lines or [f"no races in {self.runs} runs; other schedules may have some"]
+        lines += [f"other {self.names}: in {self.others} of {self.runs} runs"] if self.others else []
+        return lines or [f"no {self.names} in {self.runs} runs; other schedules may have some"]
+
+
+class CycleTally(Tally):
+    """Takes the cycles of locks."""
+    name, names = "lock cycle", "lock cycles"
+
+    def key(self, cycle):
+        return len(cycle.orders), frozenset(order.taking.place for order in cycle.orders)
+
+    def found(self, known):
+        return known.cycles
+
+    def text(self, cycle):
+        return cycle_text(cycle)
 
 
 class Hunts:
     """Takes the places of `hunt` and of `glance_of_program`."""
-    tally = Tally
+    tally, cycle_tally = Tally, CycleTally
 
     def hunt(self, ckrt, folder, seeds, options, *more):
         data = (folder / options.input).read_bytes() if options.input else None
         disks = {seed: disk_of(seed, options, (folder / "image").read_bytes(), data) for seed in seeds}
         outcomes = {seed: text_of_outcome(folded(disk), options.steps, options.ignores_output) for seed, disk in disks.items()}
         races = self.races(disks, outcomes, options) if options.is_raced else []
+        cycles = self.cycles(disks, options) if options.is_raced else []
         kept = self.keep(folder, more[-1], disks, outcomes) if more else []
         said = {seed: said_of(folded(disk)) for seed, disk in disks.items()}
-        lines = self.arranged(lines_of_table("image", outcomes, self.told(options), said), races, kept)
+        lines = self.arranged(lines_of_table("image", outcomes, self.told(options), said), races, cycles, kept)
         is_good = {outcome[:6] for outcome in outcomes.values()} == {"exit 0"}
-        return 8 if len(set(outcomes.values())) > 1 or self.counts(races) else 0 if is_good else 9, lines
+        return 8 if len(set(outcomes.values())) > 1 or self.counts(races) or self.counts_cycles(cycles) else 0 if is_good else 9, lines
 
-    def arranged(self, table, races, kept):
-        return [*table, *races, *kept]
+    def arranged(self, table, races, cycles, kept):
+        return [*table, *races, *cycles, *kept]
 
     def told(self, options):
         return options
@@ -132,6 +157,15 @@ class Hunts:
     def counts(self, races):
         """Whether these lines tell a race."""
         return len(races) > 1
+
+    def counts_cycles(self, cycles):
+        return len(cycles) > 1
+
+    def cycles(self, disks, options):
+        tally = self.cycle_tally()
+        for seed, disk in disks.items():
+            tally.take(seed, readings_of(disk).locks.known)
+        return tally.lines(options)
 
     def found_in(self, disks, outcomes):
         return {seed: races_of(disk) for seed, disk in disks.items()}
@@ -293,13 +327,75 @@ class WithoutWord(Hunts):
 
 
 class RacesFirst(Hunts):
-    def arranged(self, table, races, kept):
-        return [*races, *table, *kept]
+    def arranged(self, table, races, cycles, kept):
+        return [*races, *table, *cycles, *kept]
 
 
 class RacesLast(Hunts):
-    def arranged(self, table, races, kept):
-        return [*table, *kept, *races]
+    def arranged(self, table, races, cycles, kept):
+        return [*table, *cycles, *kept, *races]
+
+
+class CyclesFirst(Hunts):
+    """In front of the races."""
+
+    def arranged(self, table, races, cycles, kept):
+        return [*table, *cycles, *races, *kept]
+
+
+class NoCycles(Hunts):
+    def cycles(self, disks, options):
+        return []
+
+
+class StatusWithoutCycles(Hunts):
+    def counts_cycles(self, cycles):
+        return False
+
+
+class SilentOfCycles(CycleTally):
+    """Nothing is told where there is none."""
+
+    def lines(self, options):
+        return super().lines(options) if self.rows else []
+
+
+class CountsCycles(CycleTally):
+    """A run is counted as often as its orders closed one there."""
+
+    def note(self, row, seed, pair):
+        row.count += pair.count
+
+
+class LastCycles(CycleTally):
+    """Those of the last run that has one at these places."""
+
+    def note(self, row, seed, pair):
+        row.count, row.pair = row.count + 1, pair
+
+
+class LastSeedOfCycles(CycleTally):
+    def note(self, row, seed, pair):
+        row.count, row.seed = row.count + 1, seed
+
+
+class CyclesByTheFirst(CycleTally):
+    """Those are one that begin at the same place."""
+
+    def key(self, cycle):
+        return cycle.orders[0].taking.place
+
+
+class CyclesInTurn(CycleTally):
+    """The same places in another order make another one."""
+
+    def key(self, cycle):
+        return tuple(order.taking.place for order in cycle.orders)
+
+
+class ForgetsOtherCycles(CycleTally):
+    def note_others(self, left):
+        pass
 
 
 class Unasked(Hunts):
@@ -341,10 +437,11 @@ class OtherEvents(Hunts):
 
 
 def of_tally(wrong):
-    return type(wrong.__name__, (Hunts,), {"tally": wrong})
+    return type(wrong.__name__, (Hunts,), {"cycle_tally" if issubclass(wrong, CycleTally) else "tally": wrong})
 
 
 TALLIES = [CountsRaces, LastSeed, LastAccesses, BothWays, MoreRoom, LessRoom, OthersByRaces, ForgetsOthers, OwnPairsAlone, ByAddress, RunsWithRaces,
            Silent]
-WRONG_HUNTS = [*map(of_tally, TALLIES), StatusOfOutcomes, FirstRuns, SameDetector, SameClocks, KeepsAnother, KeepsShorter, WithoutWord, RacesFirst,
+CYCLE_TALLIES = [SilentOfCycles, CountsCycles, LastCycles, LastSeedOfCycles, CyclesByTheFirst, CyclesInTurn, ForgetsOtherCycles]
+WRONG_HUNTS = [*map(of_tally, TALLIES + CYCLE_TALLIES), CyclesFirst, NoCycles, StatusWithoutCycles, StatusOfOutcomes, FirstRuns, SameDetector, SameClocks, KeepsAnother, KeepsShorter, WithoutWord, RacesFirst,
                RacesLast, Unasked, UnaskedStatus, OfKeptRuns, ShorterInFolders, OtherEvents]

@@ -234,7 +234,7 @@ class Tables(unittest.TestCase):
                                         ([a, a], [quiet, raced], 8), ([a], [raced], 8), ([a, b, a], [raced, raced, quiet], 8), ([c], [], 9),
                                         ([c, c], [quiet, quiet], 9), ([c, a], [], 8), ([c], [raced], 8), (["exit 1, output 1"], [], 9),
                                         (["fault of thread 1 at 00001000, x"], [], 9), (["no end within 9 steps or events"], [], 9), (["waits for input"], [], 9)]:
-            self.assertEqual(status_of(outcomes, found), status, (outcomes, found))
+            self.assertEqual(status_of(outcomes, [one.pairs for one in found]), status, (outcomes, found))
 
     def test_refused(self):
         """What is there, also a link that leads to nothing; a folder that is missing, or none. Of a folder the first disk is looked at."""

@@ -3,7 +3,7 @@ import unittest
 from random import Random
 from unittest.mock import patch
 
-from cases.moved import MovedCase, expected_motions, moved_case, packets_of, place_at_first, steps_of, told_at, words_at_first
+from cases.moved import MovedCase, ender_of, expected_motions, moved_case, packets_of, place_at_first, steps_of, told_at, words_at_first
 from cases.stepped import Way, stepped_case
 from model.abi import Call
 from model.assembler import STOP, image_of
@@ -204,6 +204,16 @@ class Motions(unittest.TestCase):
         last = ended[-1]
         self.assertEqual((sorted(last.there), sorted(last.left)), ([1, 2], [1]))
         self.assertEqual(stepped(ended, none, last.before, LAST, 2), (last.behind, "T05thread:1;"))
+
+    def test_ender(self):
+        """After the end of a program a motion on names the thread that ended it; where it goes on, the one of the stop before."""
+        for last, ender in ((Call.EXIT, 2), (Call.SELF, None)):
+            recording = recording_of([(2, call(last, 0))], threads=1)
+            expected = expected_motions(MovedCase(b"", Stops([], []), [(None, ["vCont;c", "bc", "vCont;c"])]), recording)
+            self.assertEqual((ender_of(recording), [answer for _, answer in expected[1:6:2]]),
+                             (ender, [f"T05replaylog:end;thread:{ender or 1};", "T05replaylog:begin;thread:1;", f"T05replaylog:end;thread:{ender or 1};"]))
+            way = Way(Random(1), recording, steps_of(recording), Stops([], []))
+            self.assertEqual(way.motion("step", 9)[1], f"T05replaylog:end;thread:{ender or 1};")
 
     def test_limits(self):
         """Of events with 3, 0, 2 and 5 steps from event 1 on; one without steps counts for one."""

@@ -64,11 +64,15 @@ def locked(items, mutex=0x2000):
 
 
 def recording_of(turns, threads=2, routines=()):
-    """Thread 1 creates others, and then each turn is a thread's: the words that it executes, or a number of steps of a routine."""
+    """Thread 1 creates others, and then each turn is a thread's, the words that it executes or a number of steps of a routine; or so many ticks."""
     code = {1: [item for number in range(2, threads + 2) for item in call(Call.CREATE, Label(f"thread {number}"), 0, 0, 0)],
             **{number: [] for number in range(2, threads + 2)}}
     lines = ["place 0 1", f"run 0 {length_of(code[1]) // 4}"]
-    for number, items in turns:
+    for turn in turns:
+        if isinstance(turn, int):
+            lines.append(f"tick {turn}")
+            continue
+        number, items = turn
         steps = items if isinstance(items, int) else length_of(items) // 4
         code[number] = code.get(number, []) + ([] if isinstance(items, int) else items)
         lines += [f"place 0 {number}", f"run 0 {steps}"]

@@ -47,7 +47,8 @@ class Names(unittest.TestCase):
 
     def test_right(self):
         """Of a disk those of any image."""
-        lines = b"no races in events 0 to 0 of this schedule; another one may have some\n"
+        lines = (b"no races in events 0 to 0 of this schedule; another one may have some\n"
+                 b"no cycle of locks in events 0 to 0 of this schedule; another one may have one\n")
         self.assertEqual(self.expected("races", NAMES[0]), (0, lines, None))
         for command in ("inspect", "calls"):
             self.assertEqual(self.expected(command, NAMES[0]), self.expected(command, None))
