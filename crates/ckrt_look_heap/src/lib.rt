@@ -21,6 +21,7 @@ mod shadow;
 mod texts;
 mod walk;
 
+pub use again::{write_back, write_made};
 pub use block::{Access, Block, Cell, Deed, Moment, Part};
 pub use finding::{FINDINGS, Finding};
 pub use laws::{
@@ -29,5 +30,7 @@ pub use laws::{
 };
 pub use parts::PART_BYTES;
 pub use recorded::{shadow_for, write_errors};
+pub use replay::{Cursor, Source, copy_of};
 pub use shadow::{Note, Shadow};
+pub use texts::{write_others_line, write_times_line};
 pub use walk::watch_event;

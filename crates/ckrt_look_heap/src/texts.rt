@@ -100,7 +100,7 @@ fn write_error<W: Write>(out: &mut W, access: &Access, cell: &Cell) -> Result<()
 
 /// How often, and the end of the line.
 #[tactic(auto, using(ckrt_look_calls::proofs::AppendLemmas::appends_both))]
-fn write_times_line<W: Write>(out: &mut W, times: u64) -> Result<()>
+pub fn write_times_line<W: Write>(out: &mut W, times: u64) -> Result<()>
     ensures { OnOk result
         (Appends (W.contents out.old) (W.contents out.new) (times_text times ++ codes "\n")) }
 {
@@ -131,7 +131,7 @@ fn write_others<W: Write>(out: &mut W, others: u64) -> Result<()>
 
 /// The same, if there were some.
 #[tactic(auto, using(ckrt_look_calls::proofs::AppendLemmas::appends_none))]
-pub(crate) fn write_others_line<W: Write>(out: &mut W, others: u64) -> Result<()>
+pub fn write_others_line<W: Write>(out: &mut W, others: u64) -> Result<()>
     ensures { OnOk result
         (Appends (W.contents out.old) (W.contents out.new) (others_line others)) }
 {

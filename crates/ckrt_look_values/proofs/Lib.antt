@@ -1,0 +1,4 @@
+pub mod FoundLemmas
+pub mod FreshLemmas
+pub mod ListLemmas
+pub mod WalkLemmas
