@@ -1,19 +1,21 @@
 """Measures checkpoints and recoveries of real disks, alternating with what they are measured beside, and prints ratios.
 
-Words: the folder of the disks (the present one, if none), and jobs (`checkpoints`, `changed`, `recorded`, `recovery`, `power-on`,
-`resident`, `inspect`; all, if none is named).
+Words: the folder of the disks (the present one, if none), and jobs (`checkpoints`, `changed`, `recorded`, `recovery`, `large`,
+`power-on`, `resident`, `inspect`; all, if none is named).
 
 checkpoints: on disks of 64, 256 and 1,024 pages, of all of them, beside the same reads, writes and syncs in plain Rust. Each program has a
 disk of its own; after all rounds the two are compared byte by byte. changed: the same on a disk of 1,024 pages, of which four, or none,
 have changed since the last checkpoint into the same area. recorded: checkpoints as a drive with an input makes them, each behind a
 commit and with its record, beside checkpoints without these: of all pages, and of four of 1,024. recovery: of such disks with an empty journal, in a new
-process each time, beside the same sync and reading the same bytes into new memory. power-on: from the start of `ckrt run` to
+process each time, beside the same sync and reading the same bytes into new memory. large: the same of disks of 65,536 pages, where four pages have
+changed and where all are written, and how such a disk is made, beside as many zeros that are written and synced. power-on: from the start of `ckrt run` to
 its first reply, on a disk of 64 pages whose journal of 1,048,576 bytes has no room for another batch of Runs, beside reading the disk's
 bytes and the machine alone with as many Runs. resident: of `ckrt run` with 1,024 pages, after an event, a commit and two
 checkpoints. inspect: `ckrt inspect` of disks of 1,024 pages with an empty journal, of a program that hasn't begun and of one
 with 64 threads, 61 waits and 201 mutexes, from the start of the process to its end, beside `ckrt run` of them without a line, which
 recovers the program and does nothing else.
 """
+import os
 import statistics
 import sys
 import time
@@ -26,6 +28,7 @@ from shared.disks import make
 
 PAGES = (64, 256, 1_024)
 ROUNDS = 31
+LARGEST, LARGE_ROUNDS = 65_536, 9
 # The first checkpoint of a process writes all pages, since the area that it goes to wasn't read; later ones write those that changed.
 CHECKPOINTS = 1
 # The first writes to a disk that was just made are slow in both, and not counted; each area is written once.
@@ -59,12 +62,12 @@ class Bench:
     def checkpoint_times(self, program, job, path, count):
         return [int(word) for word in run([program, job, path, str(count)])[1].split()]
 
-    def alternate(self, what, job, disks, count):
+    def alternate(self, what, job, disks, count, rounds=ROUNDS):
         """Checkpoints of one job in turns, `count` of each process; then the disks have to be the same."""
         programs, times = (self.plain, self.probe), ([], [])
         for program, disk in zip(programs, disks):
             self.checkpoint_times(program, job, disk, WARM_UP)
-        for turn in turns(ROUNDS):
+        for turn in turns(rounds):
             for k in turn:
                 times[k].append(statistics.median(self.checkpoint_times(programs[k], job, disks[k], count)))
         self.report(what, times[1], times[0])
@@ -79,9 +82,9 @@ class Bench:
             disks = [self.format_disk(f"checkpoint_{k}.disk", pages) for k in (0, 1)]
             self.alternate(f"checkpoint of {pages} pages", "checkpoint", disks, CHECKPOINTS)
 
-    def stores_disk(self, name):
+    def stores_disk(self, name, pages=1_024):
         """A disk on which the guest has made a round, and is at the beginning of the next."""
-        disk = self.format_disk(name, 1_024, image=self.stores)
+        disk = self.format_disk(name, pages, image=self.stores)
         run([self.ckrt, "run", disk], f"place 0 1\nrun 0 {STORES_ROUND}\ncheckpoint\n")
         return disk
 
@@ -115,17 +118,45 @@ class Bench:
             self.alternate_recorded(f"checkpoint of {pages} pages with a commit and a record", ("checkpoint", "recorded"), pages, CHECKPOINTS)
         self.alternate_recorded("checkpoint of 4 changed pages of 1024 with a commit and a record", ("changed", "recorded-changed"), 1_024, CHANGES)
 
+    def recoveries(self, pages, count):
+        disk = self.format_disk("recovery.disk", pages)
+        disk.read_bytes()
+        sync(disk)
+        programs, times = (self.plain, self.probe), ([], [])
+        for turn in turns(count):
+            for k in turn:
+                times[k].append(int(run([programs[k], "recover", disk])[1]))
+        disk.unlink()
+        self.report(f"recovery of {pages} pages, empty journal", times[1], times[0])
+
     def recovery(self):
         for pages in PAGES:
-            disk = self.format_disk("recovery.disk", pages)
-            disk.read_bytes()
-            sync(disk)
-            programs, times = (self.plain, self.probe), ([], [])
-            for turn in turns(RECOVERIES):
-                for k in turn:
-                    times[k].append(int(run([programs[k], "recover", disk])[1]))
-            disk.unlink()
-            self.report(f"recovery of {pages} pages, empty journal", times[1], times[0])
+            self.recoveries(pages, RECOVERIES)
+
+    def large(self):
+        """Disks of the most pages: how they are made, and the rest as of smaller ones."""
+        pages, length = LARGEST, self.format_disk("large.disk", LARGEST).stat().st_size
+        times = [], []
+        for turn in turns(LARGE_ROUNDS):
+            for k in turn:
+                (self.folder / "large.disk").unlink(missing_ok=True)
+                began = time.perf_counter()
+                self.zeros("large.disk", length) if k == 0 else self.format_disk("large.disk", pages)
+                times[k].append(time.perf_counter() - began)
+        (self.folder / "large.disk").unlink()
+        self.report(f"making of a disk of {pages} pages", times[1], times[0], "s")
+        disks = [self.format_disk(f"checkpoint_{k}.disk", pages) for k in (0, 1)]
+        self.alternate(f"checkpoint of {pages} pages", "checkpoint", disks, CHECKPOINTS, LARGE_ROUNDS)
+        disks = [self.stores_disk(f"changed_{k}.disk", pages) for k in (0, 1)]
+        self.alternate(f"checkpoint of 4 changed pages of {pages}", "changed", disks, CHANGES, LARGE_ROUNDS)
+        self.recoveries(pages, LARGE_ROUNDS)
+
+    def zeros(self, name, length):
+        """Writes as many zeros, a mebibyte at once, and syncs them."""
+        with open(self.folder / name, "wb", buffering=0) as file:
+            for at in range(0, length, 1 << 20):
+                file.write(bytes(min(1 << 20, length - at)))
+            os.fsync(file.fileno())
 
     def steps_of_guest(self):
         return steps_told(run([self.probe, "run", self.image, "64", "1", "65535"])[1])
@@ -210,8 +241,8 @@ class Bench:
               f"ratio {middle:.3f} ({low:.3f} to {high:.3f})", flush=True)
 
 
-JOBS = {"checkpoints": Bench.checkpoints, "changed": Bench.changed, "recorded": Bench.recorded, "recovery": Bench.recovery, "power-on": Bench.power_on,
-        "resident": Bench.resident, "inspect": Bench.inspect}
+JOBS = {"checkpoints": Bench.checkpoints, "changed": Bench.changed, "recorded": Bench.recorded, "recovery": Bench.recovery, "large": Bench.large,
+        "power-on": Bench.power_on, "resident": Bench.resident, "inspect": Bench.inspect}
 
 
 def main():
