@@ -135,21 +135,27 @@ class Bench:
 
     def large(self):
         """Disks of the most pages: how they are made, and the rest as of smaller ones."""
-        pages, length = LARGEST, self.format_disk("large.disk", LARGEST).stat().st_size
-        times = [], []
-        for turn in turns(LARGE_ROUNDS):
-            for k in turn:
-                (self.folder / "large.disk").unlink(missing_ok=True)
-                began = time.perf_counter()
-                self.zeros("large.disk", length) if k == 0 else self.format_disk("large.disk", pages)
-                times[k].append(time.perf_counter() - began)
-        (self.folder / "large.disk").unlink()
-        self.report(f"making of a disk of {pages} pages", times[1], times[0], "s")
+        pages = LARGEST
+        self.makings(pages)
         disks = [self.format_disk(f"checkpoint_{k}.disk", pages) for k in (0, 1)]
         self.alternate(f"checkpoint of {pages} pages", "checkpoint", disks, CHECKPOINTS, LARGE_ROUNDS)
         disks = [self.stores_disk(f"changed_{k}.disk", pages) for k in (0, 1)]
         self.alternate(f"checkpoint of 4 changed pages of {pages}", "changed", disks, CHANGES, LARGE_ROUNDS)
         self.recoveries(pages, LARGE_ROUNDS)
+
+    def makings(self, pages):
+        """Disks that are made, and as many zeros that are written, in turns."""
+        disk = self.format_disk("large.disk", pages)
+        length, times = disk.stat().st_size, ([], [])
+        makers = (lambda: self.zeros(disk.name, length)), (lambda: self.format_disk(disk.name, pages))
+        for turn in turns(LARGE_ROUNDS):
+            for k in turn:
+                disk.unlink()
+                began = time.perf_counter()
+                makers[k]()
+                times[k].append(time.perf_counter() - began)
+        disk.unlink()
+        self.report(f"making of a disk of {pages} pages", times[1], times[0], "s")
 
     def zeros(self, name, length):
         """Writes as many zeros, a mebibyte at once, and syncs them."""

@@ -61,33 +61,20 @@ static void act(int me) {
     both(&locks[0], &locks[1]);
     both(&locks[1], &locks[0]);
 }
-#elif CASE == READERS
+#elif CASE == READERS || CASE == WRITERS
 static void act(int me) {
     pthread_rwlock_rdlock(&shared[me]);
-    pthread_rwlock_rdlock(&shared[1 - me]);
+    (CASE == READERS ? pthread_rwlock_rdlock : pthread_rwlock_wrlock)(&shared[1 - me]);
     pthread_rwlock_unlock(&shared[1 - me]);
     pthread_rwlock_unlock(&shared[me]);
 }
-#elif CASE == WRITERS
-static void act(int me) {
-    pthread_rwlock_rdlock(&shared[me]);
-    pthread_rwlock_wrlock(&shared[1 - me]);
-    pthread_rwlock_unlock(&shared[1 - me]);
-    pthread_rwlock_unlock(&shared[me]);
-}
-#elif CASE == TRIED
-static void act(int me) {
-    if (me == 0) return both(&locks[0], &locks[1]);
-    pthread_mutex_lock(&locks[1]);
-    if (pthread_mutex_trylock(&locks[0]) == 0) pthread_mutex_unlock(&locks[0]);
-    pthread_mutex_unlock(&locks[1]);
-}
-#elif CASE == TIMED
+#elif CASE == TRIED || CASE == TIMED
 static void act(int me) {
     struct timespec deadline = {.tv_sec = 1000};
     if (me == 0) return both(&locks[0], &locks[1]);
     pthread_mutex_lock(&locks[1]);
-    if (pthread_mutex_timedlock(&locks[0], &deadline) == 0) pthread_mutex_unlock(&locks[0]);
+    int answer = CASE == TRIED ? pthread_mutex_trylock(&locks[0]) : pthread_mutex_timedlock(&locks[0], &deadline);
+    if (answer == 0) pthread_mutex_unlock(&locks[0]);
     pthread_mutex_unlock(&locks[1]);
 }
 #elif CASE == REMADE

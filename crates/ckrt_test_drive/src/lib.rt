@@ -20,6 +20,8 @@ mod noted;
 #[cfg(test)]
 mod program;
 #[cfg(test)]
+mod ranges;
+#[cfg(test)]
 mod scheduled;
 #[cfg(test)]
 mod second_format;

@@ -194,23 +194,35 @@ class Hunts:
         return Glance(0, "".join(line + "\n" for line in lines_of_races(path.read_bytes())))
 
 
-class CountsRaces(Tally):
-    """A run is counted as often as it raced there."""
+class Counts:
+    """A run is counted as often as it was found there."""
 
     def note(self, row, seed, pair):
         row.count += pair.count
 
 
-class LastSeed(Tally):
+class LastSeed:
     def note(self, row, seed, pair):
         row.count, row.seed = row.count + 1, seed
 
 
-class LastAccesses(Tally):
-    """Those of the last run that has the pair."""
+class LastFound:
+    """What the last run has there."""
 
     def note(self, row, seed, pair):
         row.count, row.pair = row.count + 1, pair
+
+
+class ForgetsOthers:
+    def note_others(self, left):
+        pass
+
+
+class Silent:
+    """Nothing is told where there is nothing."""
+
+    def lines(self, options):
+        return super().lines(options) if self.rows else []
 
 
 class BothWays(Tally):
@@ -231,11 +243,6 @@ class LessRoom(Tally):
 class OthersByRaces(Tally):
     def note_others(self, left):
         self.others += left
-
-
-class ForgetsOthers(Tally):
-    def note_others(self, left):
-        pass
 
 
 class OwnPairsAlone(Tally):
@@ -260,13 +267,6 @@ class RunsWithRaces(Tally):
     def take(self, seed, races):
         super().take(seed, races)
         self.runs -= not races.pairs
-
-
-class Silent(Tally):
-    """Nothing is told where there is nothing."""
-
-    def lines(self, options):
-        return super().lines(options) if self.rows else []
 
 
 class StatusOfOutcomes(Hunts):
@@ -353,32 +353,6 @@ class StatusWithoutCycles(Hunts):
         return False
 
 
-class SilentOfCycles(CycleTally):
-    """Nothing is told where there is none."""
-
-    def lines(self, options):
-        return super().lines(options) if self.rows else []
-
-
-class CountsCycles(CycleTally):
-    """A run is counted as often as its orders closed one there."""
-
-    def note(self, row, seed, pair):
-        row.count += pair.count
-
-
-class LastCycles(CycleTally):
-    """Those of the last run that has one at these places."""
-
-    def note(self, row, seed, pair):
-        row.count, row.pair = row.count + 1, pair
-
-
-class LastSeedOfCycles(CycleTally):
-    def note(self, row, seed, pair):
-        row.count, row.seed = row.count + 1, seed
-
-
 class CyclesByTheFirst(CycleTally):
     """Those are one that begin at the same place."""
 
@@ -391,11 +365,6 @@ class CyclesInTurn(CycleTally):
 
     def key(self, cycle):
         return tuple(order.taking.place for order in cycle.orders)
-
-
-class ForgetsOtherCycles(CycleTally):
-    def note_others(self, left):
-        pass
 
 
 class Unasked(Hunts):
@@ -436,12 +405,17 @@ class OtherEvents(Hunts):
         return Glance(0, glance.text.replace("+", "+1"))
 
 
+def of(tally, wrong):
+    """What is wrong of races and of cycles alike, of these."""
+    return type(f"{wrong.__name__}Of{tally.__name__}", (wrong, tally), {})
+
+
 def of_tally(wrong):
     return type(wrong.__name__, (Hunts,), {"cycle_tally" if issubclass(wrong, CycleTally) else "tally": wrong})
 
 
-TALLIES = [CountsRaces, LastSeed, LastAccesses, BothWays, MoreRoom, LessRoom, OthersByRaces, ForgetsOthers, OwnPairsAlone, ByAddress, RunsWithRaces,
-           Silent]
-CYCLE_TALLIES = [SilentOfCycles, CountsCycles, LastCycles, LastSeedOfCycles, CyclesByTheFirst, CyclesInTurn, ForgetsOtherCycles]
-WRONG_HUNTS = [*map(of_tally, TALLIES + CYCLE_TALLIES), CyclesFirst, NoCycles, StatusWithoutCycles, StatusOfOutcomes, FirstRuns, SameDetector, SameClocks, KeepsAnother, KeepsShorter, WithoutWord, RacesFirst,
-               RacesLast, Unasked, UnaskedStatus, OfKeptRuns, ShorterInFolders, OtherEvents]
+OF_BOTH = [Counts, LastSeed, LastFound, ForgetsOthers, Silent]
+TALLIES = [*[of(tally, wrong) for tally in (Tally, CycleTally) for wrong in OF_BOTH], BothWays, MoreRoom, LessRoom, OthersByRaces, OwnPairsAlone, ByAddress,
+           RunsWithRaces, CyclesByTheFirst, CyclesInTurn]
+WRONG_HUNTS = [*map(of_tally, TALLIES), CyclesFirst, NoCycles, StatusWithoutCycles, StatusOfOutcomes, FirstRuns, SameDetector, SameClocks, KeepsAnother,
+               KeepsShorter, WithoutWord, RacesFirst, RacesLast, Unasked, UnaskedStatus, OfKeptRuns, ShorterInFolders, OtherEvents]

@@ -18,8 +18,8 @@ from model.race_rows import CYCLES, Row as RaceRow, difference_of_found, lines_o
 from model.races import Races, Readings
 from model.stretches import Recording
 from model.switches import switched
-from unit.stand_in_hunts import (WRONG_HUNTS, Hunts, KeepsAnother, KeepsShorter, LastAccesses, RacesFirst, StatusOfOutcomes, Unasked, WithoutWord,
-                                 disk_of, of_tally)
+from unit.stand_in_hunts import (WRONG_HUNTS, Hunts, KeepsAnother, KeepsShorter, LastFound, RacesFirst, StatusOfOutcomes, Tally, Unasked, WithoutWord,
+                                 disk_of, of, of_tally)
 
 OPTIONS = Options(16, 2, 99, is_raced=True)
 RIGHT, FINDING = range(1, 27), [1, 4, 6, 2, 15, 16, 25, 20, 26, 32, 42]  # seeds of cases
@@ -323,7 +323,7 @@ class Comparison(unittest.TestCase):
             self.assertIsNone(self.differs_by_time(Hunts(), keep=keep))
         self.assertEqual(self.tally["hunt by time", "one outcome"], 3)
         self.assertGreater(self.tally["hunt by time", "row of a race"], 0)
-        for wrong in (StatusOfOutcomes, KeepsShorter, KeepsAnother, WithoutWord, RacesFirst, of_tally(LastAccesses)):
+        for wrong in (StatusOfOutcomes, KeepsShorter, KeepsAnother, WithoutWord, RacesFirst, of_tally(of(Tally, LastFound))):
             self.assertIsNotNone(self.differs_by_time(wrong()), wrong)
         self.assertIsNone(self.differs_by_time(KeepsShorter(), False))
         self.assertIsNotNone(self.differs_by_time(Unasked(), False, "kept"))

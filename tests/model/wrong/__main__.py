@@ -26,7 +26,9 @@ FIRST = {
     **dict.fromkeys(["motions", "moved", "stepped"], "motions"), **dict.fromkeys(["profiles", "profiled"], "profiles"),
     **dict.fromkeys(["columns", "crowded"], "columns"), **dict.fromkeys(["stories", "lived"], "stories"), "timed": "timed",
     **dict.fromkeys(["mistyped", "mistakes"], "mistyped"), "words": "words", "glances": "races",
-    **dict.fromkeys(["lock_orders", "lock_steps", "cycle_texts", "lockers"], "cycles"), **dict.fromkeys(["beneath", "callers"], "beneath"), **dict.fromkeys(["heap", "checks"], "checks"), "many": "many", "images": "images", "schedules": "schedules", **dict.fromkeys(["layout", "listing", "switches", "formats"], "programs"),
+    **dict.fromkeys(["lock_orders", "lock_steps", "cycle_texts", "lockers"], "cycles"), **dict.fromkeys(["beneath", "callers"], "beneath"),
+    **dict.fromkeys(["heap", "checks"], "checks"), "many": "many", "images": "images", "schedules": "schedules",
+    **dict.fromkeys(["layout", "listing", "switches", "formats"], "programs"),
 }
 TESTS = ["plans", "schedules", "rounds", "feeding", "calls", "call_lines", "races", "timelines", "hunts", "stubs", "mistyped", "begun", "motions", "profiles",
          "columns", "programs", "beneath", "cycles", "checks", "many", "images", "stories", "timed", "raced", "keys", "words", "long_runs", "listings", "rows", "tables", "texts", "fates", "lives", "stops"]
