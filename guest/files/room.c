@@ -7,7 +7,7 @@
 #include <stdlib.h>
 
 void *__guest_malloc(size_t bytes);
-void *__real_calloc(size_t count, size_t size);
+void *__guest_calloc(size_t count, size_t size);
 void *__guest_realloc(void *block, size_t bytes);
 void *__guest_memalign(size_t alignment, size_t bytes);
 
@@ -33,6 +33,6 @@ static size_t product(size_t count, size_t size) {
 }
 
 WITH_ROOM(malloc, __guest_malloc, (size_t bytes), (bytes), bytes)
-WITH_ROOM(calloc, __real_calloc, (size_t count, size_t size), (count, size), product(count, size))
+WITH_ROOM(calloc, __guest_calloc, (size_t count, size_t size), (count, size), product(count, size))
 WITH_ROOM(realloc, __guest_realloc, (void *old, size_t bytes), (old, bytes), bytes)
 WITH_ROOM(memalign, __guest_memalign, (size_t alignment, size_t bytes), (alignment, bytes), bytes)

@@ -10,6 +10,7 @@
 #include <errno.h>
 #include <malloc.h>
 #include <stdlib.h>
+#include <string.h>
 
 #ifdef GUEST_FILES
 #define KIT_NAME(name) __guest_##name
@@ -57,10 +58,17 @@ void __wrap_free(void *block) {
     __guest_leave_lock(&__lock___libc_recursive_mutex);
 }
 
+/* The old block is given anew where it stays. What it has more then is filled with zeros, as a new block is. */
+static void given_anew(char *block, size_t had, size_t bytes) {
+    tell_given(block, bytes);
+    if (bytes > had) memset(block + had, 0, bytes - had);
+}
+
 /* The old block is given back, and given anew where it stays. */
 static void *moved(void *old, size_t bytes) {
+    size_t had = malloc_usable_size(old);
     void *block = __real_realloc(old, bytes);
-    if (block == old) tell_given(block, bytes);
+    if (block == old) given_anew(block, had, bytes);
     if (!block && bytes != 0) tell_given(old, malloc_usable_size(old));
     return block;
 }
