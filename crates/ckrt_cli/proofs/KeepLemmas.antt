@@ -1,7 +1,8 @@
 -- What is kept, with other disks for a path.
 use Rattle.std.proofs.Common.{◌≡◌, ◌⊎◌, ℕ, zero, suc, Bool, true, false, List, length, Result, Ok, Err, inl, inr, subst, sym}
 use Rattle.ckrt_disk.specs.declared.disk.Disk.{Ghosts}
-use Rattle.ckrt_hunt_races.specs.declared.telling.HuntTold.{HuntTold}
+use Rattle.ckrt_hunt_schedules.specs.Table.{is_closer}
+use Rattle.ckrt_hunt_looks.specs.declared.telling.HuntTold.{HuntTold}
 use Rattle.ckrt_hunt_schedules.specs.declared.telling.HuntFault.{HuntFault}
 use Rattle.ckrt_cli_files.specs.Openings.{Openings, opened, with_making}
 use Rattle.ckrt_cli_reports.specs.declared.fault.JobFault.{JobFault}
@@ -119,7 +120,7 @@ pub ends_weaker : {D : Type 0} (d : Ghosts D) (it : Hunter D) (More : List ℕ �
     → ((at : List ℕ) (disk : D) → it.Fills at disk → More at disk) → EndsHunt d (wanted_of it guest input asked) old new told result → EndsHunt d (wanted_of (record it { Fills = More }) guest input asked) old new told result
 ends_weaker d it More guest input asked old new (Ok told) result more e = record {
   kept = e.kept;
-  keeps = at_weaker d (hunted_of guest asked.shape input) asked.seeds.first asked.races (config_of it.asked) guest it.Fills More (place_of it.asked.keep asked.all_rows told.done.outcomes.rows.items) old new e.kept more e.keeps;
+  keeps = at_weaker d (hunted_of guest asked.shape input) asked.seeds.first (is_closer asked.look) (config_of it.asked) guest it.Fills More (place_of it.asked.keep asked.all_rows told.done.outcomes.rows.items) old new e.kept more e.keeps;
   gives = e.gives;
 }
 ends_weaker d it More guest input asked old new (Err f) result more e = e

@@ -12,7 +12,7 @@ use Rattle.ckrt_memory.specs.declared.MemoryError.TheVariants as memory
 use Rattle.ckrt_hunt_schedules.specs.Seeds.{ends_of, seeds_of}
 use Rattle.ckrt_hunt_schedules.specs.Short.{IsChosen}
 use Rattle.ckrt_hunt_schedules.specs.Shown.{is_shown_at}
-use Rattle.ckrt_hunt_schedules.specs.Table.{kept_text, unkept_text}
+use Rattle.ckrt_hunt_schedules.specs.Table.{is_closer, kept_text, unkept_text}
 use Rattle.ckrt_hunt_schedules.specs.Tallies.{Hunted, hunted_of, numbers_of, plan_in, shape_of}
 use Rattle.ckrt_hunt_schedules.specs.Turns.{bytes_of}
 use Rattle.ckrt_hunt_schedules.specs.declared.plan.Input.{Input}
@@ -20,12 +20,13 @@ use Rattle.ckrt_hunt_schedules.specs.declared.plan.Plan.{Plan}
 use Rattle.ckrt_hunt_schedules.specs.declared.row.Row.{Row}
 use Rattle.ckrt_hunt_schedules.specs.declared.shorten.Chosen.{Chosen}
 use Rattle.ckrt_hunt_schedules.specs.declared.table.Asked.{Asked}
+use Rattle.ckrt_hunt_schedules.specs.declared.table.Look.{Look}
+use Rattle.ckrt_hunt_schedules.specs.declared.table.Look.TheVariants as look
 use Rattle.ckrt_hunt_schedules.specs.declared.telling.HuntFault.{HuntFault}
 use Rattle.ckrt_hunt_schedules.specs.declared.telling.HuntFault.TheVariants as hunt
 use Rattle.ckrt_hunt_schedules.specs.declared.verdict.Verdict.{Verdict}
-use Rattle.ckrt_hunt_races.specs.Hunts.{IsHuntedWith, told_text, verdict_on}
-use Rattle.ckrt_hunt_races.specs.RaceRuns.{FillsSome, hunted_within}
-use Rattle.ckrt_hunt_races.specs.declared.telling.HuntTold.{HuntTold}
+use Rattle.ckrt_hunt_looks.specs.Hunts.{FillsAsked, IsHuntedWith, told_text, verdict_on}
+use Rattle.ckrt_hunt_looks.specs.declared.telling.HuntTold.{HuntTold}
 use Rattle.ckrt_cli_words.specs.Jobs.{Hunting}
 use Rattle.ckrt_cli_files.specs.Openings.{Openings, opened, with_image}
 use Rattle.ckrt_cli_files.specs.declared.file.FileFault.{FileFault}
@@ -58,6 +59,12 @@ seeds_by (Some seconds) seeds = Some (1, 18446744073709551614)
 abbrev pub asked_seeds : Hunting → Option (ℕ × ℕ)
 asked_seeds h = seeds_by h.seconds h.seeds
 
+-- what each run is looked at for
+abbrev pub look_of : Hunting → Look
+look_of h =
+    if h.races then look.Races else if h.check then look.Errors
+    else look.Outcomes
+
 -- What is hunted: what the words ask for, the bytes of the files of a path, where they are known, and the disks that may be made for it.
 pub record Hunter (D : Type 0) : Type 1 where
   pub asked : Hunting
@@ -71,15 +78,15 @@ fault_of hunt.OutOfMemory = job.OutOfMemory
 fault_of hunt.ShadowFull = job.ShadowFull
 fault_of hunt.Write = job.Serve serve.Write
 
--- the table was written of the seeds that were run, and their races where they were asked for; where it wasn't, nothing was, but where the writer
+-- the table was written of the seeds that were run, and what their runs were looked at for; where it wasn't, nothing was, but where the writer
 -- failed; and where the room of the shadow is full, a run fills it
 pub record Tells (guest : List ℕ) (input : Input) (asked : Asked) (a b : Option (List ℕ))
     (told : Result HuntTold HuntFault) : Type 0 where
-  pub hunted : IfOk told (IsHuntedWith asked.races guest input asked)
+  pub hunted : IfOk told (IsHuntedWith asked.look guest input asked)
   pub written : IfOk told (λ t. Appends a b (told_text asked t))
   pub unwritten : IfErr told (λ e. e ≢ hunt.Write → b ≡ a)
   pub full : IfErr told (λ e. e ≡ hunt.ShadowFull
-      → FillsSome (hunted_within asked.room (hunted_of guest asked.shape input)) asked.seeds)
+      → FillsAsked asked.look asked.room (hunted_of guest asked.shape input) asked.seeds)
 
 -- What is sought of a seed of a hunt: a plan that comes to the same, or the one that was drawn, and what is kept by it on the disk of a path.
 pub record Sought (D : Type 0) : Type 1 where
@@ -119,7 +126,7 @@ abbrev pub wanted_of : {D : Type 0} → Hunter D → (guest : List ℕ) → Inpu
 wanted_of it guest input asked = record {
   path = it.asked.keep;
   all_rows = asked.all_rows;
-  sought = sought_by (hunted_of guest asked.shape input) asked.seeds.first asked.races (config_of it.asked) guest it.Fills;
+  sought = sought_by (hunted_of guest asked.shape input) asked.seeds.first (is_closer asked.look) (config_of it.asked) guest it.Fills;
 }
 
 -- what a hunt has reached: what its sources were asked for, and what its writer has, where that is known
@@ -366,12 +373,12 @@ pub record IsAsked (h : Hunting) (asked : Asked) : Type 0 where
   pub seeds : Some (ends_of asked.seeds) ≡ asked_seeds h
   pub may_end : asked.may_end ≡ is_some h.seconds
   pub input : option_map (λ path. path.now) asked.input ≡ h.input
-  pub races : asked.races ≡ h.races
+  pub look : asked.look ≡ look_of h
   pub room : asked.room ≡ room_of h.memory
   pub output : asked.shape.ignores_output ≡ h.ignore_output
   pub all_rows : asked.all_rows ≡ h.all_rows
 
--- the image and the input were read, and it was hunted: the table and the races were written, and then what is told of a run that was kept
+-- the image and the input were read, and it was hunted: the table and what was found were written, and then what is told of a run that was kept
 pub record HuntsImage {D : Type 0} (d : Ghosts D) (it : Hunter D) (old new : Outside D)
     (result : Result Verdict JobFault) : Type 0 where
   pub guest : List ℕ

@@ -12,9 +12,9 @@ use Rattle.ckrt_look_calls.specs.declared.stretch.Stretch.{Stretch}
 use Rattle.ckrt_look_profile.specs.Recorded.{IsProfileText}
 use Rattle.ckrt_look_profile.specs.declared.form.Form.{Form as ProfileTextForm}
 use Rattle.ckrt_look_profile.specs.declared.form.Form.TheVariants as profile
-use Rattle.ckrt_look_heap.specs.Recorded.{errors_account}
 use Rattle.ckrt_look_races.specs.Recorded.{races_account}
 use Rattle.ckrt_look_races.specs.declared.recorded.TheConstants.{ROOM}
+use Rattle.ckrt_look_values.specs.Recorded.{checks_account}
 use Rattle.ckrt_look_timeline.specs.Recorded.{IsDrawing}
 use Rattle.ckrt_look_timeline.specs.Widths.{is_width}
 use Rattle.ckrt_look_timeline.specs.declared.recorded.Style.{Style}
@@ -103,14 +103,14 @@ RacesPath d Opens rules s old new result =
     ⊎ ((is_room s.memory ≡ true)
     × LooksPath d (sight s.stretch Opens (races_account rules (room_of s.memory))) old new result)
 
--- `check`: its errors of memory, a line for each place, with what is told of the first one there by these rules. Where its shadow would have too
--- few bytes nothing was asked for
+-- `check`: its errors of memory and its uses of values that were never stored, a line for each place, with what is told of the first one there
+-- by these rules. Where its shadow would have too few bytes nothing was asked for
 abbrev pub ChecksPath : {D : Type 0} → Ghosts D → (D → Type 0) → List Rule → Shadowing
     → (old new : Outside D) → Result (Unit {0}) JobFault → Type 0
 ChecksPath d Opens rules s old new result =
     ((is_room s.memory ≡ false) × (result ≡ Err job.Range) × (new ≡ old))
     ⊎ ((is_room s.memory ≡ true)
-    × LooksPath d (sight s.stretch Opens (errors_account rules (room_of s.memory))) old new result)
+    × LooksPath d (sight s.stretch Opens (checks_account rules (room_of s.memory))) old new result)
 
 -- `timeline`: what its threads did, as trace events with `--json`, else as a picture
 abbrev pub form_of : Bool → Form

@@ -13,14 +13,14 @@ use ckrt_disk::Disk;
 use ckrt_events::Event;
 use ckrt_inspect::InspectFault;
 use ckrt_look_calls::Telling;
-use ckrt_look_heap::write_errors;
 use ckrt_look_recording::Rule;
+use ckrt_look_values::write_checks;
 use ckrt_machine::Machine;
 use std::alloc::Global;
 use std::io::{Read, Write};
 
-/// Its errors of memory, a line for each place, with what is told of the first one there. Callers are found by rules, and the shadow may take
-/// so many bytes.
+/// Its errors of memory and its uses of values that were never stored, a line for each place, with what is told of the first one there. Callers
+/// are found by rules, and the shadow may take so many bytes.
 #[derive(Clone, Copy)]
 struct Errors<'a> {
     rules: &'a [Rule],
@@ -28,9 +28,9 @@ struct Errors<'a> {
 }
 
 impl Telling for Errors<'_> {
-    ghost use Rattle.ckrt_look_heap.specs.Recorded.{errors_account};
+    ghost use Rattle.ckrt_look_values.specs.Recorded.{checks_account};
 
-    ghost Tells = { λ r. errors_account r.rules.now r.room };
+    ghost Tells = { λ r. checks_account r.rules.now r.room };
 
     fn tell<W: Write>(
         &self,
@@ -40,12 +40,13 @@ impl Telling for Errors<'_> {
         events: &[Event],
         out: &mut W,
     ) -> Result<(), InspectFault> {
-        write_errors(alloc, machine, count, events, self.rules, self.room, out)
+        write_checks(alloc, machine, count, events, self.rules, self.room, out)
     }
 }
 
-/// Tells the errors of memory of what the disk of a path has recorded, a line for each place, with what is told of the first one there: of
-/// all, or of the events behind so many and up to so many. Callers are found by rules. The disk is only read.
+/// Tells the errors of memory of what the disk of a path has recorded, and its uses of values that were never stored: of all, or of the
+/// events behind so many and up to so many. Each place has a line, with what is told of the first one there. Callers are found by rules. The
+/// disk is only read.
 ///
 /// # Errors
 ///

@@ -6,7 +6,7 @@ ghost use Rattle.ckrt_hunt_schedules.specs.Tallies.{hunted_of};
 ghost use Rattle.ckrt_hunt_schedules.specs.Turns.{bytes_of};
 ghost use Rattle.ckrt_cli_words.specs.Jobs.{hunting_of};
 ghost use Rattle.ckrt_cli_reports.specs.Outside.{outside};
-ghost use Rattle.ckrt_cli.specs.Hunting.{EndsHunt, HuntsPath, IsUnkeepable, KeepsAt, Tells, answer_of, asked_seeds, config_of, fault_of, kept_file, kept_size, place_of, reached, sought_in, wanted_of};
+ghost use Rattle.ckrt_cli.specs.Hunting.{EndsHunt, HuntsPath, IsUnkeepable, KeepsAt, Tells, answer_of, asked_seeds, config_of, fault_of, kept_file, kept_size, look_of, place_of, reached, sought_in, wanted_of};
 
 use crate::folder::{is_folder, keep_in_folder, outcome_path};
 use crate::found::{KeptAt, ToldHunt, keep_first};
@@ -17,9 +17,9 @@ use ckrt_cli_files::{FileFault, JobFile, Sources};
 use ckrt_cli_reports::{JobFault, is_hunt_in_range};
 use ckrt_cli_words::HuntJob;
 use ckrt_disk::Disk;
-use ckrt_hunt_races::{HuntTold, hunt_as_asked};
+use ckrt_hunt_looks::{HuntTold, hunt_as_asked};
 use ckrt_hunt_schedules::{
-    Asked, HuntFault, HuntOnlooker, HuntWatch, Input, Seeds, Shape, TableWatch, Verdict,
+    Asked, HuntFault, HuntOnlooker, HuntWatch, Input, Look, Seeds, Shape, TableWatch, Verdict,
 };
 use ckrt_main::ServeFault;
 use ckrt_recovery::{Config, FormatFault};
@@ -68,6 +68,19 @@ fn seeds_for(job: &HuntJob<'_>) -> Option<Seeds>
         }),
         (None, Some(text)) => Seeds::read(text),
         (None, None) => Seeds::read("1-200"),
+    }
+}
+
+/// What the words ask each run to be looked at for.
+fn look_of(job: &HuntJob<'_>) -> Look
+    ensures { result ≡ look_of (hunting_of job.now) }
+{
+    if job.races {
+        Look::Races
+    } else if job.check {
+        Look::Errors
+    } else {
+        Look::Outcomes
     }
 }
 
@@ -232,7 +245,7 @@ fn hunt_image<'a, I: Read, D: Disk, S: Sources<'a, I, D>, W: Write, O: HuntOnloo
                 input,
                 first: hunted.asked.seeds.first,
                 rows: told.done.outcomes.rows(),
-                as_drawn: hunted.asked.races,
+                as_drawn: hunted.asked.look.is_closer(),
                 all_rows: hunted.asked.all_rows,
             };
             let kept = keep_if_asked::<I, D, S, W>(alloc, job.keep, kept_of, sources, writer);
@@ -249,13 +262,14 @@ fn hunt_image<'a, I: Read, D: Disk, S: Sources<'a, I, D>, W: Write, O: HuntOnloo
 /// with `/`, the first run of each outcome is, on a disk of its own. Each is kept by the shortest schedule that is found, and written is
 /// its disk too, and how many switches it has. Of a folder the first run that isn't kept is named as well.
 ///
-/// Where the words ask for races, each run is looked at for them, and those that some run had are written behind the table. Then a run is
-/// kept as it was drawn, since a shorter schedule may have other races, and where a run had a race, that is told as several outcomes are.
+/// Where the words ask for races or for errors of memory, each run is looked at for them, and those that some run had are written behind
+/// the table. Then a run is kept as it was drawn, since a shorter schedule may have others, and where a run had one, that is told as
+/// several outcomes are.
 ///
 /// # Errors
 ///
 /// The first that applies: `BadConfig` where pages or harts are out of their ranges; `Range` where seconds or bytes of the shadow are, where
-/// there are seeds beside seconds, or such bytes without a look at races, or where the text of the seeds isn't a range; `File` where no disk can be made at the path where one is to be kept, in a
+/// there are seeds beside seconds, two looks, or such bytes without a look, or where the text of the seeds isn't a range; `File` where no disk can be made at the path where one is to be kept, in a
 /// folder the first one; `File` and `OutOfMemory` of the image, `File` also where it is an ELF
 /// file; `ImageTooLong`; of the input `File`, `OutOfMemory`, and `InputTooLong` where it has more than 1,048,576 bytes; `OutOfMemory` of
 /// the hunt, and `ShadowFull` where a run that is looked at fills the room of the shadow; `Serve` where the writer failed; of the disk `OutOfMemory` of the search for a schedule, `File`, what formatting and recovery
@@ -300,7 +314,7 @@ pub fn hunt_path<'a, I: Read + Drop, D: Disk, S: Sources<'a, I, D>, W: Write, O:
         seeds,
         may_end: job.seconds.is_some(),
         input: job.input,
-        races: job.races,
+        look: look_of(job),
         room: room_of(job.memory),
         all_rows: job.all_rows,
     };

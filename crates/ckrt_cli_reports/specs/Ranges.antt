@@ -1,5 +1,5 @@
 -- The numbers of the words: what is given where they have none, and which of them are in their ranges.
-use Rattle.std.specs.Prelude.{◌&&◌, ℕ, nat_lt, nat_le, Bool, true, false, List, not, Option, Some, None, unwrap_or}
+use Rattle.std.specs.Prelude.{◌&&◌, ◌||◌, ℕ, nat_lt, nat_le, Bool, true, false, List, not, Option, Some, None, unwrap_or}
 use Rattle.ckrt_stored.specs.declared.config.Config.{Config}
 use Rattle.ckrt_drive.specs.Slot.{TAKEN_LIMIT}
 use Rattle.ckrt_cli_words.specs.Jobs.{Driving, Hunting}
@@ -50,20 +50,24 @@ abbrev pub is_time : Option ℕ → Bool
 is_time None = true
 is_time (Some seconds) = nat_lt 0 seconds && nat_le seconds 31536000
 
--- a table that is written while a hunt runs has no races
-abbrev pub is_tabled : (table : Option (List ℕ)) → (races : Bool) → Bool
-is_tabled None races = true
-is_tabled (Some path) races = not races
+-- a hunt looks at its runs for races or for errors of memory, and not for both
+abbrev pub is_one_look : (races check : Bool) → Bool
+is_one_look races check = not (races && check)
+
+-- a table that is written while a hunt runs has outcomes alone
+abbrev pub is_tabled : (table : Option (List ℕ)) → (is_closer : Bool) → Bool
+is_tabled None is_closer = true
+is_tabled (Some path) is_closer = not is_closer
 
 -- a shadow may take 1 MiB or more
 abbrev pub is_room : Option ℕ → Bool
 is_room None = true
 is_room (Some bytes) = nat_le 1048576 bytes
 
--- and of hunts only those that look at races have one
-abbrev pub is_shadowed : (memory : Option ℕ) → (races : Bool) → Bool
-is_shadowed None races = true
-is_shadowed (Some bytes) races = races
+-- and of hunts only those that look closer have one
+abbrev pub is_shadowed : (memory : Option ℕ) → (is_closer : Bool) → Bool
+is_shadowed None is_closer = true
+is_shadowed (Some bytes) is_closer = is_closer
 
 -- what a hunt is told besides its sizes and the text of its seeds
 abbrev pub is_hunt_in_range : Hunting → Bool
@@ -71,4 +75,6 @@ is_hunt_in_range h =
     is_choice h.seeds h.seconds
     && (is_time h.seconds
     && (is_interval h.progress
-    && (is_tabled h.table h.races && (is_shadowed h.memory h.races && is_room h.memory))))
+    && (is_one_look h.races h.check
+    && (is_tabled h.table (h.races || h.check)
+    && (is_shadowed h.memory (h.races || h.check) && is_room h.memory)))))

@@ -17,7 +17,7 @@ pub enum JobFault {
     File(JobFile, FileFault),
     /// There was no memory for the image, for the core, or for a debugger's session.
     OutOfMemory,
-    /// A run of a hunt that was looked at for races fills the room of the shadow.
+    /// A run of a hunt that was looked at closer fills the room of the shadow.
     ShadowFull,
     /// The disk wasn't formatted.
     Format(FormatFault),

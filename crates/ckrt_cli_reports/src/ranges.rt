@@ -1,7 +1,7 @@
 //! The numbers of the words: what is given where they have none, and which of them are in their ranges.
 ghost use Rattle.std.specs.Prelude.{◌≡◌, option_map};
 ghost use Rattle.ckrt_cli_words.specs.Jobs.{driving_of, hunting_of};
-ghost use Rattle.ckrt_cli_reports.specs.Ranges.{config_for, is_choice, is_hunt_in_range, is_in_range, is_intake, is_room, is_shadowed, is_tabled, is_target, is_time};
+ghost use Rattle.ckrt_cli_reports.specs.Ranges.{config_for, is_choice, is_hunt_in_range, is_in_range, is_intake, is_one_look, is_room, is_shadowed, is_tabled, is_target, is_time};
 
 use ckrt_cli_words::{DriveJob, HuntJob, Sizes};
 use ckrt_drive::TAKEN_LIMIT;
@@ -72,11 +72,18 @@ pub fn is_time(seconds: Option<u64>) -> bool
     }
 }
 
-/// Whether a file may have the table of a hunt while it runs: where it isn't looked at for races.
-pub fn is_tabled(table: Option<&str>, races: bool) -> bool
-    ensures { result ≡ is_tabled (option_map (λ path. path.now) table.entry) races }
+/// Whether the runs of a hunt are looked at for races or for errors of memory, and not for both.
+pub(crate) fn is_one_look(races: bool, check: bool) -> bool
+    ensures { result ≡ is_one_look races check }
 {
-    table.is_none() || !races
+    !(races && check)
+}
+
+/// Whether a file may have the table of a hunt while it runs: where runs are looked at for their outcomes alone.
+pub fn is_tabled(table: Option<&str>, is_closer: bool) -> bool
+    ensures { result ≡ is_tabled (option_map (λ path. path.now) table.entry) is_closer }
+{
+    table.is_none() || !is_closer
 }
 
 /// Whether a shadow may take 1,048,576 bytes or more, where the words say how many.
@@ -89,22 +96,23 @@ pub fn is_room(memory: Option<u64>) -> bool
     }
 }
 
-/// Whether the words of a hunt say how many bytes a shadow may take only where it has one: where it is looked at for races.
-pub fn is_shadowed(memory: Option<u64>, races: bool) -> bool
-    ensures { result ≡ is_shadowed memory races }
+/// Whether the words of a hunt say how many bytes a shadow may take only where it has one: where runs are looked at closer.
+pub fn is_shadowed(memory: Option<u64>, is_closer: bool) -> bool
+    ensures { result ≡ is_shadowed memory is_closer }
 {
-    memory.is_none() || races
+    memory.is_none() || is_closer
 }
 
-/// Whether the numbers of a hunt, but for its sizes, are in their ranges, it takes seeds from one range or by time, no file has its table
-/// where that has races, and there is room for a shadow where races are looked for alone.
+/// Whether the numbers of a hunt, but for its sizes, are in their ranges, it takes seeds from one range or by time, its runs are looked at
+/// for one thing alone, no file has its table where that has more than outcomes, and there is room for a shadow only where there is one.
 pub fn is_hunt_in_range(job: &HuntJob<'_>) -> bool
     ensures { result ≡ is_hunt_in_range (hunting_of job.now) }
 {
     is_choice(job.seeds, job.seconds)
         && is_time(job.seconds)
         && job.progress != Some(0)
-        && is_tabled(job.table, job.races)
-        && is_shadowed(job.memory, job.races)
+        && is_one_look(job.races, job.check)
+        && is_tabled(job.table, job.races || job.check)
+        && is_shadowed(job.memory, job.races || job.check)
         && is_room(job.memory)
 }

@@ -1,7 +1,9 @@
 //! What is said of a fault: of its file, of its numbers, and of numbers in the words that are out of their ranges.
 use crate::fault::JobFault;
 use crate::notes::ScheduleNotes;
-use crate::ranges::{config_for, is_choice, is_room, is_shadowed, is_target, is_time};
+use crate::ranges::{
+    config_for, is_choice, is_one_look, is_room, is_shadowed, is_tabled, is_target, is_time,
+};
 use ckrt_cli_files::JobFile;
 use ckrt_cli_words::{DriveJob, HuntJob, Job, ShadowJob, TimelineJob};
 use ckrt_events::LONG_RUN_LIMIT;
@@ -137,11 +139,14 @@ fn unfit_hunt(job: &HuntJob<'_>) -> Sentence<'static> {
     if job.progress == Some(0) {
         return plain(NO_PROGRESS);
     }
-    if job.races && job.table.is_some() {
-        return plain("--table doesn't go with --races: ");
+    if !is_one_look(job.races, job.check) {
+        return plain("--check doesn't go with --races: ");
     }
-    if !is_shadowed(job.memory, job.races) {
-        return plain("--memory goes with --races alone: ");
+    if !is_tabled(job.table, job.races || job.check) {
+        return plain("--table doesn't go with --races or --check: ");
+    }
+    if !is_shadowed(job.memory, job.races || job.check) {
+        return plain("--memory goes with --races or --check alone: ");
     }
     if !is_room(job.memory) {
         return few_bytes(job.memory);

@@ -4,7 +4,7 @@ ghost use Rattle.ckrt_hunt_schedules.specs.Table.{table_text};
 
 use crate::replaced::{Content, Replaced};
 use ckrt_cli_files::FileFault;
-use ckrt_hunt_schedules::{Asked, Outcomes, Seeds, Shape, TableWatch, Tally, write_table};
+use ckrt_hunt_schedules::{Asked, Look, Outcomes, Seeds, Shape, TableWatch, Tally, write_table};
 use std::alloc::Global;
 use std::fs::{File, Files};
 
@@ -55,7 +55,7 @@ impl HuntAsked {
             seeds,
             may_end: self.may_end,
             input,
-            races: false,
+            look: Look::Outcomes,
             room: 0,
             all_rows: self.all_rows,
         }

@@ -98,7 +98,7 @@ profile_rules : AreRules profile_shape refl profile_shape.rules
 profile_rules = ((refl, inl (refl, refl)), ((refl, inl (refl, refl)), ((refl, inl (refl, refl)), ((refl, inl (refl, refl)), ((refl, inl (refl, refl)), ((refl, inr (inr (refl, (_, [], refl)))), ((refl, inr (inr (refl, (_, [], refl)))), ((refl, inr (inl refl)), tt))))))))
 
 hunt_rules : AreRules hunt_shape refl hunt_shape.rules
-hunt_rules = ((refl, inl (refl, refl)), ((refl, inl (refl, refl)), ((refl, inl (refl, refl)), ((refl, inl (refl, refl)), ((refl, inl (refl, refl)), ((refl, inl (refl, refl)), ((refl, inl (refl, refl)), ((refl, inr (inr (refl, (_, [], refl)))), ((refl, inl (refl, refl)), ((refl, inr (inr (refl, (_, [], refl)))), ((refl, inr (inr (refl, (_, [], refl)))), ((refl, inl (refl, refl)), ((refl, inl (refl, refl)), ((refl, inl (refl, refl)), ((refl, inl (refl, refl)), ((refl, inl (refl, refl)), ((refl, inr (inl refl)), tt)))))))))))))))))
+hunt_rules = ((refl, inl (refl, refl)), ((refl, inl (refl, refl)), ((refl, inl (refl, refl)), ((refl, inl (refl, refl)), ((refl, inl (refl, refl)), ((refl, inl (refl, refl)), ((refl, inl (refl, refl)), ((refl, inr (inr (refl, (_, [], refl)))), ((refl, inr (inr (refl, (_, [], refl)))), ((refl, inl (refl, refl)), ((refl, inr (inr (refl, (_, [], refl)))), ((refl, inr (inr (refl, (_, [], refl)))), ((refl, inl (refl, refl)), ((refl, inl (refl, refl)), ((refl, inl (refl, refl)), ((refl, inl (refl, refl)), ((refl, inl (refl, refl)), ((refl, inr (inl refl)), tt))))))))))))))))))
 
 number_there : (v : Text) → accepts false (vp.Signed (pos 0) (pos 4294967295)) v ≡ true → (n : ℕ) × (number_of 32 (without_minus v) ≡ Some n)
 number_there v pass =
@@ -246,7 +246,7 @@ hunt_named words pass =
     let seconds = place_in (codes "seconds") rows in
     let progress = place_in (codes "progress") rows in
     let input = first_of (codes "input") rows in
-    (hunt (record { image = image.0; seeds = seeds; seconds = seconds; pages = pages.0; harts = harts.0; input = input; steps = steps.0; races = flag_in (codes "races") rows; memory = place_in (codes "memory") rows; ignore_output = flag_in (codes "ignore-output") rows; all_rows = flag_in (codes "rows") rows; keep = first_of (codes "keep") rows; table = first_of (codes "table") rows; progress = progress }), rw (image.1, pages.1, harts.1, steps.1) refl)
+    (hunt (record { image = image.0; seeds = seeds; seconds = seconds; pages = pages.0; harts = harts.0; input = input; steps = steps.0; races = flag_in (codes "races") rows; check = flag_in (codes "check") rows; memory = place_in (codes "memory") rows; ignore_output = flag_in (codes "ignore-output") rows; all_rows = flag_in (codes "rows") rows; keep = first_of (codes "keep") rows; table = first_of (codes "table") rows; progress = progress }), rw (image.1, pages.1, harts.1, steps.1) refl)
 
 drive_named : (words : List Text) → level_passes drive_shape [] nothing_held words false ≡ true → (r : Request) × (request_in (rows_at drive_shape words) ≡ Some r)
 drive_named words pass =

@@ -4,7 +4,7 @@
 -- `check DISK [--from K] [--to K] [--last N] [--names FILE] [--memory BYTES]`,
 -- `timeline DISK [--from K] [--to K] [--last N] [--names FILE] [--width W] [--json]`,
 -- `profile DISK [--from K] [--to K] [--last N] [--names FILE] [--folded | --callgrind]`,
--- `hunt IMAGE [--seeds A-B | --seconds S] [--pages P] [--harts H] [--input FILE] [--steps N] [--races] [--memory BYTES] [--ignore-output] [--rows] [--keep DISK | FOLDER/] [--table FILE]
+-- `hunt IMAGE [--seeds A-B | --seconds S] [--pages P] [--harts H] [--input FILE] [--steps N] [--races | --check] [--memory BYTES] [--ignore-output] [--rows] [--keep DISK | FOLDER/] [--table FILE]
 -- [--progress SECONDS] [--names FILE] [--env NAME=VALUE]` and
 -- `drive DISK [--image IMAGE] [--pages P] [--harts H] [--journal J] [--input FILE] [--input-from OFFSET] [--output FILE] [--turn N] [--rounds-per-commit R] [--events N] [--seed S] [--other-schedule]
 -- [--progress SECONDS] [--status FILE] [--from OFFSET] [--names FILE] [--env NAME=VALUE]`.
@@ -122,7 +122,7 @@ profile_app =
 abbrev pub hunt_app : App
 hunt_app =
     with_rule (with_rule (with_rule (with_rule (with_rule (with_rule (with_rule (with_rule (with_rule (with_rule (with_rule (with_rule (with_rule
-    (with_rule (with_rule (with_rule (new_app (codes "hunt"))
+    (with_rule (with_rule (with_rule (with_rule (new_app (codes "hunt"))
     (needed_rule (codes "image")))
     (option_rule (codes "seeds")))
     (place_rule (codes "seconds")))
@@ -131,6 +131,7 @@ hunt_app =
     (option_rule (codes "input")))
     (number_rule (codes "steps") (codes "10000000")))
     (flag_rule (codes "races")))
+    (flag_rule (codes "check")))
     (place_rule (codes "memory")))
     (flag_rule (codes "ignore-output")))
     (flag_rule (codes "rows")))

@@ -72,7 +72,7 @@ pub record Profiling : Type 0 where
   pub form : ProfileForm
 
 -- what `hunt` runs: the image, the text of its range of seeds, or after how many seconds it takes no further seed, the sizes, the file of each
--- run's input, how many steps a run has at most, whether each is looked at for races, how many bytes their shadow may take, whether outcomes that differ in their output alone are one, whether its table has each row, the new disk or the folder that runs are kept on, the file
+-- run's input, how many steps a run has at most, whether each is looked at for races or for errors of memory, how many bytes the shadow of that may take, whether outcomes that differ in their output alone are one, whether its table has each row, the new disk or the folder that runs are kept on, the file
 -- that has its table while it runs, and at most each how many seconds it tells how far it is
 pub record Hunting : Type 0 where
   pub image : Text
@@ -83,6 +83,7 @@ pub record Hunting : Type 0 where
   pub input : Option Text
   pub steps : ℕ
   pub races : Bool
+  pub check : Bool
   pub memory : Option ℕ
   pub ignore_output : Bool
   pub all_rows : Bool
@@ -167,6 +168,7 @@ hunting_of h = record {
   input = option_map (λ path. path.now) h.input;
   steps = h.steps;
   races = h.races;
+  check = h.check;
   memory = h.memory;
   ignore_output = h.ignore_output;
   all_rows = h.all_rows;
@@ -313,6 +315,7 @@ hunting_in rows = do
     input = first_of (codes "input") rows;
     steps = steps;
     races = flag_in (codes "races") rows;
+    check = flag_in (codes "check") rows;
     memory = place_in (codes "memory") rows;
     ignore_output = flag_in (codes "ignore-output") rows;
     all_rows = flag_in (codes "rows") rows;

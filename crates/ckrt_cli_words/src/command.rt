@@ -438,7 +438,7 @@ fn profile_arguments<'a>(alloc: Global) -> Result<Vec<Arg<'a>>, AllocError>
     Ok(arguments)
 }
 
-/// `hunt IMAGE` with its options: which seeds, on what machine, with what input, how long a run is, whether it is looked at for races and what that may take, whether outputs tell outcomes apart, which rows its table has, where runs are kept, where its table is, how often it tells how far it is, and where names are.
+/// `hunt IMAGE` with its options: which seeds, on what machine, with what input, how long a run is, whether it is looked at for races or errors of memory and what that may take, whether outputs tell outcomes apart, which rows its table has, where runs are kept, where its table is, how often it tells how far it is, and where names are.
 fn hunt_command<'a>(alloc: Global) -> Result<Command<'a>, AllocError>
     ensures app { IfOk result (λ c. app_of c ≡ hunt_app) }
     ensures local { IfOk result (λ c. (out-Command c).has_globals ≡ false) }
@@ -500,6 +500,11 @@ fn hunt_arguments<'a>(alloc: Global) -> Result<Vec<Arg<'a>>, AllocError>
             "races",
             "Tell which accesses of two threads raced in some run, and in how many"
         ),
+        flag(
+            alloc,
+            "check",
+            "Tell which errors of memory some run had, and how many runs; not with --races"
+        ),
         shadow_room(alloc),
         flag(
             alloc,
@@ -515,13 +520,13 @@ fn hunt_arguments<'a>(alloc: Global) -> Result<Vec<Arg<'a>>, AllocError>
             alloc,
             "keep",
             "DISK",
-            "A new disk for a run that comes to what the first seed comes to, in few switches, but with --races as that was drawn; FOLDER/ keeps each outcome in that folder"
+            "A new disk for a run that comes to what the first seed comes to, in few switches, but with --races or --check as that was drawn; FOLDER/ keeps each outcome in that folder"
         ),
         option(
             alloc,
             "table",
             "FILE",
-            "Have the table so far in this file while the hunt runs; not with --races"
+            "Have the table so far in this file while the hunt runs; not with --races or --check"
         ),
         place(
             alloc,

@@ -152,6 +152,8 @@ pub struct HuntJob<'a> {
     pub steps: u32,
     /// Whether each run is looked at for races too.
     pub races: bool,
+    /// Whether each run is looked at for errors of memory too.
+    pub check: bool,
     /// How many bytes the shadow of that look may take; this isn't given where it takes as many as by default.
     pub memory: Option<u64>,
     /// Whether outcomes that differ in their output alone are one.

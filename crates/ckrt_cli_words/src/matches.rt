@@ -145,6 +145,7 @@ fn hunting<'a>(matches: &ArgMatches<'a>) -> Option<HuntJob<'a>>
         input,
         steps: number(matches, "steps")?,
         races: flag(matches, "races"),
+        check: flag(matches, "check"),
         memory,
         ignore_output: flag(matches, "ignore-output"),
         all_rows: flag(matches, "rows"),

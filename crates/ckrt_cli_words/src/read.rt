@@ -64,7 +64,7 @@ const BOTH_FORMS: &str = "error: the argument '--folded' cannot be used with '--
 
 /// What follows a number of `hunt` that isn't one.
 const HUNT_USAGE: &str =
-    "Usage: ckrt hunt <IMAGE> [--seeds FIRST-LAST | --seconds 1 to 31536000] [--pages 16 to 65536] [--harts 1 to 8] [--input <FILE>] [--steps NUMBER OF STEPS] [--races] [--memory BYTES] [--ignore-output] [--rows] [--keep <DISK>] [--table <FILE>] [--progress SECONDS] [--names <FILE>] [--env NAME=VALUE] [-- ARGUMENTS]";
+    "Usage: ckrt hunt <IMAGE> [--seeds FIRST-LAST | --seconds 1 to 31536000] [--pages 16 to 65536] [--harts 1 to 8] [--input <FILE>] [--steps NUMBER OF STEPS] [--races | --check] [--memory BYTES] [--ignore-output] [--rows] [--keep <DISK>] [--table <FILE>] [--progress SECONDS] [--names <FILE>] [--env NAME=VALUE] [-- ARGUMENTS]";
 
 /// What follows a number of `drive` that isn't one.
 const DRIVE_USAGE: &str =
@@ -147,7 +147,7 @@ fn is_version(words: &[&str]) -> bool
 /// that the disk still has, ends at the last one, and tells all where its numbers aren't given, which have to be below 2^64 too. So does
 /// `debug` begin, where `--at` isn't given.
 ///
-/// `hunt` has no seeds, no seconds, 64 pages, 1 hart, no file of its input, runs of at most 10,000,000 steps, no look at races and no bytes of its shadow, outcomes that outputs tell apart, of many outputs the commonest alone, no disk, no file of its table and no line of progress where these aren't given;
+/// `hunt` has no seeds, no seconds, 64 pages, 1 hart, no file of its input, runs of at most 10,000,000 steps, no look at races or errors of memory and no bytes of its shadow, outcomes that outputs tell apart, of many outputs the commonest alone, no disk, no file of its table and no line of progress where these aren't given;
 /// the numbers that are have to be below 2^32 and, of seconds and bytes, 2^64. The text of the seeds is handed on as it is.
 ///
 /// `races`, `check`, `timeline` and `profile` take a stretch as `calls` does, and `races` and `check` a number of bytes below 2^64. A picture is 1,200 pixels wide where `--width` isn't given, which has

@@ -5,7 +5,7 @@
 --     outcome 1: 3 of 200 runs, first by seed 17: deadlock, thread 2 waits for mutex 00002c58 (thread 3 has it)
 --         said: 2 of 3 are done
 --         ckrt hunt race.bin --seeds 17-17 --pages 64 --harts 2 --steps 10000000 --keep seed-17.disk
-use Rattle.std.specs.Prelude.{ℕ, zero, suc, ◌+◌, ◌-◌, ◌==◌, ◌&&◌, nat_le, nat_lt, Bool, true, if◌then◌else◌, List, [], ◌∷◌, ◌++◌, length, take, slice_get, codes, decimal, Option, Some, None, option_map}
+use Rattle.std.specs.Prelude.{ℕ, zero, suc, ◌+◌, ◌-◌, ◌==◌, ◌&&◌, nat_le, nat_lt, Bool, false, true, if◌then◌else◌, List, [], ◌∷◌, ◌++◌, length, take, slice_get, codes, decimal, Option, Some, None, option_map}
 use Rattle.std.specs.List.{flat_map}
 use Rattle.hex.specs.Hex.{encode_lower}
 use Rattle.ckrt_rv32i.specs.Names.{cause_name}
@@ -26,6 +26,8 @@ use Rattle.ckrt_hunt_schedules.specs.declared.shown.Measure.TheVariants as measu
 use Rattle.ckrt_hunt_schedules.specs.declared.shorten.Chosen.{Chosen}
 use Rattle.ckrt_hunt_schedules.specs.declared.shorten.Found.{Found}
 use Rattle.ckrt_hunt_schedules.specs.declared.table.Asked.{Asked}
+use Rattle.ckrt_hunt_schedules.specs.declared.table.Look.{Look}
+use Rattle.ckrt_hunt_schedules.specs.declared.table.Look.TheVariants as look
 use Rattle.ckrt_hunt_schedules.specs.declared.outcomes.Outcomes.{Outcomes}
 use Rattle.ckrt_hunt_schedules.specs.declared.telling.HuntDone.{HuntDone}
 
@@ -121,9 +123,16 @@ input_path_text (Some path) = codes " --input " ++ path
 abbrev pub input_text : Asked → List ℕ
 input_text a = input_path_text (option_map (λ path. path.now) a.input)
 
--- that runs are looked at for races, where they are
-abbrev pub races_word : Bool → List ℕ
-races_word races = if races then codes " --races" else []
+-- what runs are looked at for, where that is more than their outcomes
+abbrev pub is_closer : Look → Bool
+is_closer look.Outcomes = false
+is_closer look.Races = true
+is_closer look.Errors = true
+
+abbrev pub look_word : Look → List ℕ
+look_word look.Outcomes = []
+look_word look.Races = codes " --races"
+look_word look.Errors = codes " --check"
 
 -- that outcomes which differ in their output alone are one, where they are
 abbrev pub ignored_word : Bool → List ℕ
@@ -132,7 +141,7 @@ ignored_word ignores_output = if ignores_output then codes " --ignore-output" el
 abbrev pub command_line : Asked → (seed : ℕ) → List ℕ
 command_line a seed =
     codes "    ckrt hunt " ++ a.image.now ++ seed_text seed ++ shape_text a.shape ++ input_text a
-    ++ races_word a.races
+    ++ look_word a.look
     ++ ignored_word a.shape.ignores_output
     ++ (codes " --keep seed-" ++ decimal seed)
     ++ codes ".disk\n"

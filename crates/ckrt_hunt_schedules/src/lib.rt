@@ -55,7 +55,9 @@ pub use seeds::Seeds;
 pub use shape::Shape;
 pub use shorten::{Chosen, Found, MOST_TRIES, Tries, as_drawn, room_for};
 pub use shown::{Measure, has_many, is_shown, total_of};
-pub use table::{Asked, write_command_line, write_kept, write_runs, write_table, write_unkept};
+pub use table::{
+    Asked, Look, write_command_line, write_kept, write_runs, write_table, write_unkept,
+};
 pub use tally::Tally;
 pub use telling::{HuntDone, HuntFault, hunt_and_tell, hunt_fault_of};
 pub use texts::write_counted;

@@ -1,7 +1,7 @@
 //! What a hunt came to, as a table.
 ghost use Rattle.std.specs.Prelude.{◌≡◌, ◌+◌, ◌≤◌, ◌++◌, ◌∷◌, [], codes, decimal, length, OnOk};
 ghost use Rattle.std.specs.Io.KnownBytes.{Appends};
-ghost use Rattle.ckrt_hunt_schedules.specs.Table.{command_line, drawn_text, fewest_text, head_text, ignored_word, input_text, kept_text, many_text, outcome_line, outputs_line, others_line, placed_text, races_word, row_text, rows_text, runs_text, said_line, seed_text, shape_text, shown_text, table_text, unkept_text};
+ghost use Rattle.ckrt_hunt_schedules.specs.Table.{command_line, drawn_text, fewest_text, head_text, ignored_word, input_text, kept_text, look_word, many_text, outcome_line, outputs_line, others_line, placed_text, row_text, rows_text, runs_text, said_line, seed_text, shape_text, shown_text, table_text, unkept_text};
 
 use crate::outcomes::Outcomes;
 use crate::row::Row;
@@ -12,6 +12,31 @@ use crate::shorten::{Chosen, Found};
 use crate::shown::{Measure, has_many, is_shown, total_of};
 use crate::texts::{write_counted, write_digest, write_outcome};
 use std::io::{Result, Write};
+
+/// What each run of a hunt is looked at for, beside its outcome.
+#[derive(Clone, Copy, Debug, PartialEq, Eq)]
+pub enum Look {
+    /// Nothing else.
+    Outcomes,
+    /// Data races, and cycles of locks.
+    Races,
+    /// Errors of memory.
+    Errors,
+}
+
+impl Look {
+    ghost use Rattle.ckrt_hunt_schedules.specs.Table.{is_closer};
+
+    /// Whether it is for more than its outcome.
+    pub fn is_closer(self) -> bool
+        ensures { result ≡ is_closer self }
+    {
+        match self {
+            Look::Outcomes => false,
+            Look::Races | Look::Errors => true,
+        }
+    }
+}
 
 /// What a hunt was asked for.
 #[derive(Clone, Copy, Debug, PartialEq, Eq)]
@@ -24,8 +49,8 @@ pub struct Asked<'a> {
     pub may_end: bool,
     /// The path of the input, as it was given, where there is one.
     pub input: Option<&'a str>,
-    /// Whether each run is looked at for races too.
-    pub races: bool,
+    /// What each run is looked at for.
+    pub look: Look,
     /// How many bytes the room of that look's shadow has.
     pub room: u64,
     /// Whether each row of its table has lines.
@@ -114,16 +139,16 @@ fn write_input<W: Write>(out: &mut W, asked: &Asked<'_>) -> Result<()>
     }
 }
 
-/// That runs are looked at for races, where they are.
+/// What runs are looked at for, where that is more than their outcomes.
 #[tactic(auto, using(crate::proofs::AppendLemmas::appends_none))]
-fn write_races_word<W: Write>(out: &mut W, races: bool) -> Result<()>
+fn write_look_word<W: Write>(out: &mut W, look: Look) -> Result<()>
     ensures { OnOk result
-        (Appends (W.contents out.old) (W.contents out.new) (races_word races)) }
+        (Appends (W.contents out.old) (W.contents out.new) (look_word look)) }
 {
-    if races {
-        out.write_all(b" --races")
-    } else {
-        Ok(())
+    match look {
+        Look::Outcomes => Ok(()),
+        Look::Races => out.write_all(b" --races"),
+        Look::Errors => out.write_all(b" --check"),
     }
 }
 
@@ -150,7 +175,7 @@ pub fn write_command_line<W: Write>(out: &mut W, asked: &Asked<'_>, seed: u64) -
     write_seed(out, seed)?;
     write_shape(out, &asked.shape)?;
     write_input(out, asked)?;
-    write_races_word(out, asked.races)?;
+    write_look_word(out, asked.look)?;
     write_ignored_word(out, asked.shape.ignores_output)?;
     write_counted(out, b" --keep seed-", seed)?;
     out.write_all(b".disk\n")

@@ -27,7 +27,7 @@ pub enum HuntFault {
     /// There was no memory for it.
     #[error("OutOfMemory")]
     OutOfMemory,
-    /// The shadow of a run that is looked at for races has no room left.
+    /// The shadow of a run that is looked at closer has no room left.
     #[error("ShadowFull")]
     ShadowFull,
     /// The writer failed.

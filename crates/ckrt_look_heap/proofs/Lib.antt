@@ -2,6 +2,7 @@ pub mod BehindLemmas
 pub mod CallerLemmas
 pub mod CellLemmas
 pub mod FoundLemmas
+pub mod OnlyLemmas
 pub mod LawLemmas
 pub mod LeftLemmas
 pub mod ListLemmas

@@ -91,10 +91,10 @@ heap_all (n ∷ ns) s left =
 pub nothing_left_out : NothingIsLeftOut
 nothing_left_out w words slots ns left = heap_all ns (fresh_within w words slots) left
 
--- a room that is used up stays so
-pub full_stays : (ns : List Note) (s : Noted) → is_full s ≡ true → is_full (noted_all ns s) ≡ true
-full_stays ns s full = go (is_full (noted_all ns s)) refl
+-- the end needs no room
+pub end_keeps_the_room : (has_ended : Bool) (s : Noted) → is_full (noted_all (note.End has_ended ∷ []) s) ≡ is_full s
+end_keeps_the_room has_ended s = go (is_full s) refl
   where
-    go : (t : Bool) → is_full (noted_all ns s) ≡ t → is_full (noted_all ns s) ≡ true
-    go true e = e
-    go false e = absurd (true≢false (sym full ∙ open_all ns s e))
+    go : (t : Bool) → is_full s ≡ t → is_full (noted_one (note.End has_ended) s) ≡ is_full s
+    go true full = ap is_full (sym (within_none (note.End has_ended) s full))
+    go false left = ap is_full (sym (within_some (note.End has_ended) s left))

@@ -1,6 +1,6 @@
 -- What a step that is no call notes: a load or a store, and what the kit tells of memory. Fetches are no loads.
 use Rattle.std.specs.Prelude.{ℕ, ◌+◌, ◌-◌, ◌*◌, ◌/◌, ◌%◌, ◌==◌, not, Bool, if◌then◌else◌, List, [], ◌∷◌, Option, Some, None}
-use Rattle.ckrt_registers.specs.Registers.{Registers, get}
+use Rattle.ckrt_registers.specs.Registers.{get}
 use Rattle.ckrt_rv32i.specs.Effect.{load_size}
 use Rattle.ckrt_rv32i.specs.Memory.{byte_count}
 use Rattle.ckrt_rv32i.specs.Words.{word_add_signed}
@@ -9,19 +9,17 @@ use Rattle.ckrt_rv32i.specs.declared.instruction.Instr.TheVariants as instr
 use Rattle.ckrt_rv32i.specs.declared.instruction.AluOp.{AluOp}
 use Rattle.ckrt_rv32i.specs.declared.instruction.AluOp.TheVariants as alu
 use Rattle.ckrt_rv32i.specs.declared.memory_bus.Size.{Size}
-use Rattle.ckrt_thread.specs.State as threads
 use Rattle.ckrt_mutex.specs.Mutex.{is_owner, mutex_at}
 use Rattle.ckrt_calls.specs.declared.table.Tables.{Tables}
 use Rattle.ckrt_machine.specs.Steps.{State}
-use Rattle.ckrt_look_calls.specs.declared.lines.Place.{Place}
 use Rattle.ckrt_look_recording.specs.Accesses.{fetched, may_access}
+use Rattle.ckrt_look_steps.specs.declared.stepping.Stepping.{Stepping}
 use Rattle.ckrt_look_heap.specs.declared.block.Access.{Access}
 use Rattle.ckrt_look_heap.specs.declared.block.Block.{Block}
 use Rattle.ckrt_look_heap.specs.declared.block.Deed.{Deed}
 use Rattle.ckrt_look_heap.specs.declared.block.Deed.TheVariants as deed
 use Rattle.ckrt_look_heap.specs.declared.block.Moment.{Moment}
 use Rattle.ckrt_look_heap.specs.declared.block.Part.{Part}
-use Rattle.ckrt_look_heap.specs.declared.notes.Stepping.{Stepping}
 use Rattle.ckrt_look_heap.specs.declared.shadow.Note.{Note}
 use Rattle.ckrt_look_heap.specs.declared.shadow.Note.TheVariants as note
 
@@ -101,13 +99,7 @@ of_instruction m s (Some (instr.Alu op rd rs1 rs2)) =
     if rd == 0 then told_by m s op (get s.regs rs1) (get s.regs rs2) else []
 of_instruction m s _ = []
 
-abbrev pub of_registers : (t : ℕ) → Place → State → Option Registers → List Note
-of_registers t p s None = []
-of_registers t p s (Some r) =
-    of_instruction s (record { thread = t; place = p; regs = r }) (fetched s.bytes r.pc)
-
--- what the next step of the thread on a hart notes, if that is an instruction
-abbrev pub notes : Place → Option ℕ → State → List Note
-notes p None s = []
-notes p (Some t) s =
-    of_registers t p s (threads.regs_of (threads.thread_of s.tables.threads t))
+-- what a step notes, if somebody makes it, and it is an instruction
+abbrev pub notes : Option Stepping → State → List Note
+notes None m = []
+notes (Some s) m = of_instruction m s (fetched m.bytes s.regs.pc)

@@ -3,7 +3,6 @@ use Rattle.std.specs.Prelude.{◌≡◌, ℕ, ◌+◌, ◌/◌, ◌==◌, min, t
 use Rattle.ckrt_events.specs.declared.event.Event.{Event}
 use Rattle.ckrt_machine.specs.Steps.{State}
 use Rattle.ckrt_look_recording.specs.declared.rule.Rule.{Rule}
-use Rattle.ckrt_look_calls.specs.Stretches.{Account}
 use Rattle.ckrt_look_heap.specs.Again.{Replay, finding_text, left_text}
 use Rattle.ckrt_look_heap.specs.Shadow.{Heap, behind_all, fresh}
 use Rattle.ckrt_look_heap.specs.Steps.{of_events}
@@ -43,11 +42,3 @@ text_by r k h = heap_text (finding_text r) (left_text r) k (k + length r.events)
 
 abbrev pub errors_text : List Rule → ℕ → List Event → State → List ℕ
 errors_text rules k es s = text_by (replay rules k es s) k (heap_behind k es s)
-
--- this is that text
-abbrev pub IsErrorsText : List Rule → (k : ℕ) → List Event → State → List ℕ → Type 0
-IsErrorsText rules k es s text = text ≡ errors_text rules k es s
-
--- what is told of events by a look with a shadow in a room of so many bytes
-abbrev pub errors_account : List Rule → (room : ℕ) → Account
-errors_account rules room = record { IsText = IsErrorsText rules; Fills = FillsRoom room }

@@ -10,9 +10,11 @@ use Rattle.ckrt_machine.specs.Runs.{stop_of, with_byte}
 use Rattle.ckrt_machine.specs.Steps.{State, Stepped, hart_of, hart_step}
 use Rattle.ckrt_look_recording.specs.Quiet.{is_quiet}
 use Rattle.ckrt_look_calls.specs.declared.lines.Place.{Place}
+use Rattle.ckrt_look_steps.specs.Steppings.{stepping_of}
 use Rattle.ckrt_look_heap.specs.declared.shadow.Note.{Note}
 use Rattle.ckrt_look_heap.specs.declared.shadow.Note.TheVariants as note
 use Rattle.ckrt_look_heap.specs.Notes.{notes}
+use Rattle.ckrt_look_heap.specs.Within.{Noted, noted_all}
 
 -- behind so many events and so many steps of the next one
 abbrev pub at : ℕ → ℕ → Place
@@ -21,7 +23,11 @@ at k s = record { event = k; step = s }
 -- A STEP of the thread on hart h: only a plain one touches memory
 abbrev pub of_step : Place → ℕ → State → List Note
 of_step p h s =
-    if is_quiet (hart_of s.tables h) s then notes p (hart_of s.tables h) s else []
+    if is_quiet (hart_of s.tables h) s then notes (stepping_of p (hart_of s.tables h) s) s else []
+
+-- the shadow after a step
+abbrev pub after_step : Place → (h : ℕ) → State → Noted → Noted
+after_step p h s w = noted_all (of_step p h s) w
 
 -- A RUN: what more is done, unless it has ended
 abbrev pub unless_ended : Option RunEnd → List Note → List Note

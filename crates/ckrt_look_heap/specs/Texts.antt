@@ -48,9 +48,12 @@ abbrev pub times_text : ℕ → List ℕ
 times_text n = if n == 1 then codes "once" else decimal n ++ codes " times"
 
 -- `K+S thread T loads ADDRESS pc PC in no block, once`
+abbrev pub error_text : Finding → List ℕ
+error_text f =
+    (access_text f.access ++ where_text f.access.deed f.cell) ++ times_text f.count
+
 abbrev pub finding_line : Finding → List ℕ
-finding_line f =
-    (access_text f.access ++ where_text f.access.deed f.cell) ++ (times_text f.count ++ codes "\n")
+finding_line f = error_text f ++ codes "\n"
 
 abbrev pub others_text : ℕ → List ℕ
 others_text n = codes "and " ++ times_text n ++ codes " at other places\n"

@@ -1,5 +1,6 @@
 -- What is noted in a room of slots: note by note as with the whole shadow, until the room is used up. From then on nothing is noted.
 use Rattle.std.specs.Prelude.{◌≡◌, ◌≤◌, ℕ, ◌+◌, ◌/◌, Bool, true, false, if◌then◌else◌, List, [], ◌∷◌, get_or}
+use Rattle.std.proofs.Common.{sym, true≢false}
 use Rattle.ckrt_look_heap.specs.declared.block.Access.{Access}
 use Rattle.ckrt_look_heap.specs.declared.block.Cell.{Cell}
 use Rattle.ckrt_look_heap.specs.declared.block.Cell.TheVariants as cell
@@ -60,6 +61,17 @@ with_told s = with_room s.room s.heap (record s.heap { is_told = true })
 abbrev pub noted_all : List Note → Noted → Noted
 noted_all [] s = s
 noted_all (n ∷ ns) s = noted_all ns (noted_one n s)
+
+-- a room that is used up stays so
+stays_chosen : (t : Bool) (s more : Noted) → t ≡ true → is_full s ≡ true → is_full (if t then s else more) ≡ true
+stays_chosen true s more is full = full
+stays_chosen false s more is full = absurd (true≢false (sym is))
+
+pub full_stays : (ns : List Note) (s : Noted) → is_full s ≡ true → is_full (noted_all ns s) ≡ true
+full_stays [] s full = full
+full_stays (n ∷ ns) s full =
+    full_stays ns (noted_one n s)
+    (stays_chosen (is_full s) s (noted_with (room_for n s.heap s.room) n s.heap) full full)
 
 -- nothing was told yet of so many words, from the program's begin on or not, in a room of so many slots
 abbrev pub fresh_within : (is_whole : Bool) → (words slots : ℕ) → Noted

@@ -66,7 +66,7 @@ fn write_back_line<W: Write>(out: &mut W, word: &[u8], moment: &Moment) -> Writt
 }
 
 /// The callers of who did something.
-fn write_made<W: Write>(
+pub fn write_made<W: Write>(
     alloc: Global,
     source: &Source<'_>,
     cursor: &mut Cursor,
@@ -113,7 +113,7 @@ fn write_taken<W: Write>(
 
 /// Who gave it back.
 #[tactic(auto, using(ckrt_look_calls::proofs::AppendLemmas::appends_both))]
-fn write_back<W: Write>(
+pub fn write_back<W: Write>(
     alloc: Global,
     source: &Source<'_>,
     cursor: &mut Cursor,

@@ -18,14 +18,16 @@ pub struct Finding {
     pub count: u64,
 }
 
-/// Whether an error is one of these.
-fn is_at(finding: &Finding, access: &Access, cell: &Cell) -> bool
-    ensures { result ≡ is_at access.now cell.now finding.now }
-{
-    number_of(access.deed) == number_of(finding.access.deed)
-        && access.pc == finding.access.pc
-        && access.link == finding.access.link
-        && kind_of(cell) == kind_of(&finding.cell)
+impl Finding {
+    /// Whether an error is one of these.
+    pub fn is_at(&self, access: &Access, cell: &Cell) -> bool
+        ensures { result ≡ is_at access.now cell.now self.now }
+    {
+        number_of(access.deed) == number_of(self.access.deed)
+            && access.pc == self.access.pc
+            && access.link == self.access.link
+            && kind_of(cell) == kind_of(&self.cell)
+    }
 }
 
 /// The errors at this place count one more, if there are some.
@@ -35,7 +37,7 @@ pub(crate) fn count_again(findings: &mut Vec<Finding>, access: &Access, cell: &C
     ensures room { vec_capacity findings.new ≡ vec_capacity findings.old }
 {
     for place in 0..findings.len() {
-        if is_at(&findings[place], access, cell) {
+        if findings[place].is_at(access, cell) {
             findings[place].count = findings[place].count.saturating_add(1);
             return true;
         }

@@ -27,6 +27,14 @@ impl Findings {
         })
     }
 
+    /// Nothing any more.
+    pub(crate) fn clear(&mut self)
+        ensures { found_in self.new ≡ no_findings }
+    {
+        self.rows.clear();
+        self.others = 0;
+    }
+
     /// An error, and what was told of its word.
     pub(crate) fn note(&mut self, access: &Access, cell: &Cell)
         ensures { found_in self.new ≡ noted access.now cell.now (found_in self.old) }

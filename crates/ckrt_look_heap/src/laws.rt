@@ -1,5 +1,5 @@
 //! Laws of the shadow. Each is the contract of a function with an empty body.
-ghost use Rattle.ckrt_look_heap.specs.Laws.{GivenBackBlocksAreTold, GivenBlocksAreUsed, TheExampleIsTold};
+ghost use Rattle.ckrt_look_heap.specs.Laws.{GivenBackBlocksAreTold, GivenBlocksAreUsed, OnlyErrorsAreTold, TheExampleIsTold};
 ghost use Rattle.ckrt_look_heap.specs.Within.{NothingIsLeftOut, RoomForAllSuffices};
 
 /// Whoever uses the bytes of a block that was given, and not given back, is told of no error.
@@ -10,6 +10,12 @@ pub fn given_blocks_are_used()
 /// Whoever uses a word of a block that was given back is told of an error.
 pub fn given_back_blocks_are_told()
     ensures { GivenBackBlocksAreTold }
+{}
+
+/// Each error that is told is one of what was done: a word was used that may not be, or a block given back where none begins, by what was
+/// told of it then.
+pub fn only_errors_are_told()
+    ensures { OnlyErrorsAreTold }
 {}
 
 /// A block that is loaded once it was given back, and given back again, has two errors told of it, and no others.

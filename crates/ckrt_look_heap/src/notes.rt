@@ -1,6 +1,5 @@
 //! What a step notes: loads and stores, and what the kit tells of memory.
-ghost use Rattle.std.specs.Prelude.{◌≡◌, ◌%◌};
-ghost use Rattle.ckrt_machine.specs.Steps.{hart_of};
+ghost use Rattle.std.specs.Prelude.{◌≡◌};
 ghost use Rattle.ckrt_mutex.specs.Mutex.{is_owner, mutex_at};
 ghost use Rattle.ckrt_look_recording.specs.Accesses.{fetched};
 ghost use Rattle.ckrt_look_heap.specs.declared.shadow.Note.TheVariants as note;
@@ -10,26 +9,17 @@ ghost use Rattle.ckrt_look_heap.specs.Within.{noted_all};
 use crate::block::{Access, Block, Deed, Moment, Part};
 use crate::shadow::Shadow;
 use ckrt_calls::Tables;
-use ckrt_look_calls::Place;
 use ckrt_look_recording::{byte_count, fetched, may_access};
+use ckrt_look_steps::Stepping;
 use ckrt_machine::Machine;
-use ckrt_registers::Regs;
 use ckrt_rv32i::{AluOp, Instr, Size};
 use ckrt_thread::ThreadId;
 
 /// The name of the lock of a kit's heap.
 const HEAP_LOCK: u32 = 2;
 
-/// Who makes a step, where, and with which registers.
-#[derive(Clone, Copy)]
-pub(crate) struct Stepping {
-    pub(crate) thread: u8,
-    pub(crate) place: Place,
-    pub(crate) regs: Regs,
-}
-
-/// Whether a thread owns the lock of a kit's heap.
-fn is_in_heap(tables: &Tables, thread: ThreadId) -> bool
+/// Whether a thread owns the lock of a kit's heap: what it does there isn't told.
+pub fn is_in_heap(tables: &Tables, thread: ThreadId) -> bool
     ensures { result ≡ is_in_heap thread tables.now }
 {
     tables.mutexes.mutex(HEAP_LOCK).is_owned_by(thread)
@@ -157,7 +147,6 @@ fn watch_told(
 
 /// What an instruction notes.
 fn watch_instruction(machine: &Machine, step: &Stepping, shadow: &mut Shadow)
-    requires { step.now.regs.pc % 4 ≡ 0 }
     ensures { shadow.new ≡ noted_all (of_instruction machine.now.state step.now
         (fetched machine.now.state.bytes step.now.regs.pc)) shadow.old }
 {
@@ -198,22 +187,11 @@ fn watch_instruction(machine: &Machine, step: &Stepping, shadow: &mut Shadow)
     }
 }
 
-/// What the next step of a hart notes, if that is an instruction.
-pub(crate) fn watch_notes(machine: &Machine, place: Place, hart: u8, shadow: &mut Shadow)
-    ensures { shadow.new ≡ noted_all
-        (notes place (hart_of machine.now.state.tables hart) machine.now.state) shadow.old }
+/// A shadow gets what a step notes, if somebody makes it, and it is an instruction. It takes no memory.
+pub fn watch_notes(machine: &Machine, step: &Option<Stepping>, shadow: &mut Shadow)
+    ensures { shadow.new ≡ noted_all (notes step.now machine.now.state) shadow.old }
 {
-    let threads = &machine.tables().threads;
-    threads.known();
-    let Some(thread) = threads.on_hart(usize::from(hart)) else {
-        return;
-    };
-    if let Some(regs) = threads.regs(thread) {
-        let step = Stepping {
-            thread,
-            place,
-            regs,
-        };
-        watch_instruction(machine, &step, shadow);
+    if let Some(step) = step {
+        watch_instruction(machine, step, shadow);
     }
 }

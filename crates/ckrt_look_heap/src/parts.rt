@@ -62,6 +62,13 @@ fn no_parts(alloc: Global, words: usize) -> Result<Vec<Told>, AllocError>
     Ok(parts)
 }
 
+/// Nothing was told of parts any more.
+fn forget(parts: &mut Vec<Told>)
+    ensures { parts.new.items ≡ replicate (length parts.old.items) (told.Same cell.Unknown) }
+{
+    parts.as_mut_slice().fill(Told::Same(Cell::Unknown));
+}
+
 /// The room for the cells of so many slots.
 fn room_for(alloc: Global, slots: usize) -> Result<Vec<Cell>, AllocError>
     ensures empty { IfOk result (λ cells. cells.items ≡ []) }
@@ -105,6 +112,19 @@ impl Parts {
             count: slots,
             is_full: false,
         })
+    }
+
+    /// Nothing was told any more. It gives all slots back, and looks at no word.
+    pub(crate) fn clear(&mut self)
+        ensures { self.new ≡ record {
+          cells = replicate (length self.old.cells) cell.Unknown;
+          room = no_slots (length self.old.cells) self.old.room.count;
+        } }
+    {
+        forget(&mut self.parts);
+        self.cells.clear();
+        self.taken = 0;
+        self.is_full = false;
     }
 
     /// How many words there are.

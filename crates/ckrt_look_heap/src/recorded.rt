@@ -1,67 +1,24 @@
 //! The errors of memory of events.
-ghost use Rattle.std.specs.Prelude.{◌≡◌, ◌⊎◌, ◌<◌, ◌+◌, ◌^◌, false, true, IfErr, IfOk, OnOk, length};
+ghost use Rattle.std.specs.Prelude.{◌≡◌, ◌⊎◌, ◌<◌, ◌+◌, ◌^◌, IfErr, IfOk, OnOk, length};
 ghost use Rattle.std.specs.Io.KnownBytes.{Appends};
-ghost use Rattle.ckrt_machine.specs.Events.{AllAccepted};
 ghost use Rattle.ckrt_inspect.specs.declared.fault.InspectFault.TheVariants.{OutOfMemory, Write as Writing};
-ghost use Rattle.ckrt_look_calls.specs.Stretches.{IsEventsFault};
 ghost use Rattle.ckrt_look_heap.specs.Again.{IsSound, finding_text, replay_of};
-ghost use Rattle.ckrt_look_heap.specs.Recorded.{FillsRoom, errors_text, fresh_for, slots_in, text_by, words_of};
-ghost use Rattle.ckrt_look_heap.specs.Steps.{of_events};
+ghost use Rattle.ckrt_look_heap.specs.Recorded.{fresh_for, slots_in, text_by, words_of};
 ghost use Rattle.ckrt_look_heap.specs.Texts.{found_text};
-ghost use Rattle.ckrt_look_heap.specs.Within.{is_full, noted_all};
 
 use crate::again::write_findings;
 use crate::left::write_left;
 use crate::parts::PART_BYTES;
-use crate::replay::{Source, copy_of};
+use crate::replay::Source;
 use crate::shadow::Shadow;
 use crate::texts::{write_none, write_others_line, write_untold};
-use crate::walk::{watch_end, watch_event};
-use ckrt_events::Event;
 use ckrt_inspect::InspectFault;
-use ckrt_look_recording::Rule;
 use ckrt_machine::Machine;
 use std::alloc::{AllocError, Global};
 use std::io::Write;
 
-/// Makes events, and gives a shadow what they note, up to their end, as long as its room isn't used up. The first is after `count` others.
-///
-/// # Errors
-///
-/// `Damaged` where an event isn't accepted at its turn, `ShadowFull` where the room is used up.
-fn watch_events(
-    machine: &mut Machine,
-    count: u64,
-    events: &[Event],
-    shadow: &mut Shadow,
-) -> Result<(), InspectFault>
-    requires few { count + length events.now < 2 ^ 64 }
-    requires left { is_full shadow.old ≡ false }
-    ensures watched { OnOk result
-        (shadow.new ≡ noted_all (of_events count events.now machine.old.state) shadow.old) }
-    ensures left { OnOk result (is_full shadow.new ≡ false) }
-    ensures accepted { OnOk result (AllAccepted events.now machine.old.state) }
-    ensures fault { IfErr result (IsEventsFault
-        (is_full (noted_all (of_events count events.now machine.old.state) shadow.old) ≡ true)
-        events.now machine.old.state) }
-{
-    let mut done = count;
-    for event in events {
-        if !event.in_range() || machine.accept(0, event).is_err() {
-            return Err(InspectFault::Damaged);
-        }
-        watch_event(machine, done, event, shadow);
-        if shadow.is_full() {
-            return Err(InspectFault::ShadowFull);
-        }
-        done += 1;
-    }
-    watch_end(machine, shadow);
-    Ok(())
-}
-
 /// How many words of memory there are, from address 0 on.
-fn words_of(machine: &Machine) -> usize
+pub fn words_of(machine: &Machine) -> usize
     ensures { result ≡ words_of machine.now.state }
 {
     1024 * machine.memory().pages() as usize
@@ -124,9 +81,16 @@ fn write_found<W: Write>(
     }
 }
 
-/// Writes all that a shadow tells.
+/// Writes the errors of memory that a shadow tells of events: what is done at each place in the program once, with the first one there, and how
+/// often, or where there were none. Beneath each stand the callers of its thread, and the block that has its word, with who took it and who gave
+/// it back. After these stand the blocks that weren't given back, if the program has ended. Where it looks at an error again it takes six bytes
+/// for each of the guest's memory.
+///
+/// # Errors
+///
+/// `OutOfMemory` where a growth was refused, `Write` where the writer failed.
 #[tactic(auto, using(ckrt_look_calls::proofs::AppendLemmas::appends_both))]
-fn write_all_of<W: Write>(
+pub fn write_errors<W: Write>(
     alloc: Global,
     source: &Source<'_>,
     shadow: &Shadow,
@@ -147,50 +111,4 @@ fn write_all_of<W: Write>(
     }
     write_found(alloc, source, shadow, out)?;
     write_left(alloc, source, shadow, out)
-}
-
-/// Makes events, each of which is to be accepted at its turn, and writes their errors of memory: what is done at each place in the program
-/// once, with the first one there, and how often, or where there were none. Beneath each stand the callers of its thread, and the block that
-/// has its word, with who took it and who gave it back. After these stand the blocks that weren't given back, if the program has ended.
-/// The first event is after `count` others, and nothing is known of what was told before it. It takes 64 bytes for each page of the guest's
-/// memory, and a room of so many bytes for its shadow, or of 14 for each of the guest's memory where these are fewer. Where it looks at an error
-/// again it takes six more for each.
-///
-/// # Errors
-///
-/// `Damaged` where an event isn't accepted at its turn, `ShadowFull` where the events fill the room, `OutOfMemory` where a growth was refused,
-/// `Write` where the writer failed.
-pub fn write_errors<W: Write>(
-    alloc: Global,
-    machine: &mut Machine,
-    count: u64,
-    events: &[Event],
-    rules: &[Rule],
-    room: u64,
-    out: &mut W,
-) -> Result<(), InspectFault>
-    requires few { count + length events.now < 2 ^ 64 }
-    ensures errors { OnOk result
-        (Appends (W.contents out.old) (W.contents out.new)
-        (errors_text rules.now count events.now machine.old.state)) }
-    ensures accepted { OnOk result (AllAccepted events.now machine.old.state) }
-    ensures left { OnOk result (FillsRoom room count events.now machine.old.state → ⊥) }
-    ensures fault { IfErr result
-        (IsEventsFault (FillsRoom room count events.now machine.old.state) events.now
-        machine.old.state) }
-{
-    let Ok(mut shadow) = shadow_for(alloc, machine, count, room) else {
-        return Err(InspectFault::OutOfMemory);
-    };
-    let Ok(start) = copy_of(alloc, machine) else {
-        return Err(InspectFault::OutOfMemory);
-    };
-    watch_events(machine, count, events, &mut shadow)?;
-    let source = Source {
-        rules,
-        count,
-        events,
-        start: &start,
-    };
-    write_all_of(alloc, &source, &shadow, out)
 }

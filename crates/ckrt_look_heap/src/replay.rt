@@ -14,18 +14,18 @@ use std::alloc::{AllocError, Global};
 
 /// What is looked at again: events behind the first so many, from a machine's state on, and the rules by which callers are found.
 #[derive(Clone, Copy)]
-pub(crate) struct Source<'a> {
-    pub(crate) rules: &'a [Rule],
-    pub(crate) count: u64,
-    pub(crate) events: &'a [Event],
-    pub(crate) start: &'a Machine,
+pub struct Source<'a> {
+    pub rules: &'a [Rule],
+    pub count: u64,
+    pub events: &'a [Event],
+    pub start: &'a Machine,
 }
 
 /// A machine that has made the first events of a recording.
 #[derive(Drop)]
-pub(crate) struct Cursor {
-    pub(crate) machine: Machine,
-    pub(crate) made: usize,
+pub struct Cursor {
+    pub machine: Machine,
+    pub made: usize,
 }
 
 /// The bytes of a memory, once more.
@@ -50,7 +50,7 @@ fn copied_tables(alloc: Global, machine: &Machine) -> Result<Tables, AllocError>
 }
 
 /// A machine in the state of another. It takes as much memory as that.
-pub(crate) fn copy_of(alloc: Global, machine: &Machine) -> Result<Machine, AllocError>
+pub fn copy_of(alloc: Global, machine: &Machine) -> Result<Machine, AllocError>
     ensures { IfOk result (λ copy. copy.state ≡ machine.now.state) }
 {
     machine.known();
@@ -127,7 +127,7 @@ fn step_into(machine: &mut Machine, events: &[Event], made: usize, steps: u32)
 
 impl Cursor {
     /// Nothing is made yet.
-    pub(crate) fn new(alloc: Global, source: &Source<'_>) -> Result<Cursor, AllocError>
+    pub fn new(alloc: Global, source: &Source<'_>) -> Result<Cursor, AllocError>
         ensures behind { IfOk result (IsBehind (replay_of source.now)) }
         ensures made { IfOk result (λ cursor. cursor.made ≡ 0) }
     {

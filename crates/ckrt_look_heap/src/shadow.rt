@@ -88,6 +88,17 @@ impl Shadow {
         })
     }
 
+    /// Nothing was told any more, as when it was new. It takes no memory, gives all slots back, and looks at no word.
+    pub fn clear(&mut self)
+        ensures { self.new ≡ fresh_within self.old.heap.is_whole (length self.old.heap.cells)
+            self.old.room.count }
+    {
+        self.parts.clear();
+        self.found.clear();
+        self.is_told = false;
+        self.has_ended = false;
+    }
+
     /// What was told of the word of a load or a store, if it is an error.
     pub fn wrong(&self, access: &Access) -> Option<Cell>
         ensures { result

@@ -1,7 +1,7 @@
 //! What was found, as text.
 ghost use Rattle.std.specs.Prelude.{◌≡◌, ◌++◌, codes, OnOk};
 ghost use Rattle.std.specs.Io.KnownBytes.{Appends};
-ghost use Rattle.ckrt_look_heap.specs.Texts.{access_text, elsewhere, finding_line, given_text, none_text, others_line, others_text, place_text, stretch_text, times_text, untold_text, verb, what_text, where_text};
+ghost use Rattle.ckrt_look_heap.specs.Texts.{access_text, elsewhere, error_text, finding_line, given_text, none_text, others_line, others_text, place_text, stretch_text, times_text, untold_text, verb, what_text, where_text};
 
 use crate::block::{Access, Cell, Deed};
 use crate::finding::Finding;
@@ -74,9 +74,9 @@ fn where_text(deed: Deed, cell: &Cell) -> &'static [u8]
     }
 }
 
-/// How often.
+/// Writes how often something was done: `once`, or `3 times`. It takes no memory.
 #[tactic(auto, using(ckrt_look_calls::proofs::AppendLemmas::appends_both))]
-fn write_times<W: Write>(out: &mut W, times: u64) -> Result<()>
+pub fn write_times<W: Write>(out: &mut W, times: u64) -> Result<()>
     ensures { OnOk result
         (Appends (W.contents out.old) (W.contents out.new) (times_text times)) }
 {
@@ -87,9 +87,9 @@ fn write_times<W: Write>(out: &mut W, times: u64) -> Result<()>
     out.write_all(b" times")
 }
 
-/// An error, and where it is.
+/// What is wrong, and where it is.
 #[tactic(auto, using(ckrt_look_calls::proofs::AppendLemmas::appends_both))]
-fn write_error<W: Write>(out: &mut W, access: &Access, cell: &Cell) -> Result<()>
+fn write_wrong<W: Write>(out: &mut W, access: &Access, cell: &Cell) -> Result<()>
     ensures { OnOk result
         (Appends (W.contents out.old) (W.contents out.new)
         (access_text access.now ++ where_text access.now.deed cell.now)) }
@@ -98,24 +98,24 @@ fn write_error<W: Write>(out: &mut W, access: &Access, cell: &Cell) -> Result<()
     out.write_all(where_text(access.deed, cell))
 }
 
-/// How often, and the end of the line.
+/// Writes the first error at one place, and how often there was one. It takes no memory.
 #[tactic(auto, using(ckrt_look_calls::proofs::AppendLemmas::appends_both))]
-fn write_times_line<W: Write>(out: &mut W, times: u64) -> Result<()>
+pub fn write_error<W: Write>(out: &mut W, finding: &Finding) -> Result<()>
     ensures { OnOk result
-        (Appends (W.contents out.old) (W.contents out.new) (times_text times ++ codes "\n")) }
+        (Appends (W.contents out.old) (W.contents out.new) (error_text finding.now)) }
 {
-    write_times(out, times)?;
-    out.write_all(b"\n")
+    write_wrong(out, &finding.access, &finding.cell)?;
+    write_times(out, finding.count)
 }
 
-/// The errors at one place.
+/// The same as a line.
 #[tactic(auto, using(ckrt_look_calls::proofs::AppendLemmas::appends_both))]
 pub(crate) fn write_finding<W: Write>(out: &mut W, finding: &Finding) -> Result<()>
     ensures { OnOk result
         (Appends (W.contents out.old) (W.contents out.new) (finding_line finding.now)) }
 {
-    write_error(out, &finding.access, &finding.cell)?;
-    write_times_line(out, finding.count)
+    write_error(out, finding)?;
+    out.write_all(b"\n")
 }
 
 /// How many errors there were at places for which no row was left.
@@ -131,7 +131,7 @@ fn write_others<W: Write>(out: &mut W, others: u64) -> Result<()>
 
 /// The same, if there were some.
 #[tactic(auto, using(ckrt_look_calls::proofs::AppendLemmas::appends_none))]
-pub(crate) fn write_others_line<W: Write>(out: &mut W, others: u64) -> Result<()>
+pub fn write_others_line<W: Write>(out: &mut W, others: u64) -> Result<()>
     ensures { OnOk result
         (Appends (W.contents out.old) (W.contents out.new) (others_line others)) }
 {

@@ -2,7 +2,7 @@
 
 use crate::program::Step::{self, Ends, Fails, Holds, Prints, Remove, Write, WriteGuest};
 use crate::program::play;
-use ckrt_test_data::IMAGE;
+use ckrt_test_storage::IMAGE;
 
 /// Locks the mutex 0x5000 twice.
 const LOCKS_TWICE: [u32; 5] = [

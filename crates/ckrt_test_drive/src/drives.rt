@@ -12,7 +12,7 @@ use ckrt_events::Event;
 use ckrt_machine::{Answer, RunEnd};
 use ckrt_recovery::{Config, Session};
 use ckrt_schedule::ScheduleEnd;
-use ckrt_test_data::{BOUNDED, COUNTERS, LOOPS, PAIR, READERS, ROUNDS, SIZE, SLEEPERS};
+use ckrt_test_storage::{BOUNDED, COUNTERS, LOOPS, PAIR, READERS, ROUNDS, SIZE, SLEEPERS};
 use std::io::{self, ErrorKind, Write};
 use std::process::Abort;
 

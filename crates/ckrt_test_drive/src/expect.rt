@@ -2,7 +2,7 @@
 //! to prove: what a call requires is tested here, and nothing that it ensures goes on into the test.
 
 use ckrt_disk::{MemoryDisk, StoppingDisk};
-use ckrt_test_data::{OLD_DISK, Piece, SIZE};
+use ckrt_test_storage::{OLD_DISK, Piece, SIZE};
 use std::fmt::Debug;
 use std::fs::{self, File, Files};
 use std::process::Abort;

@@ -7,7 +7,7 @@ use crate::small_disk::{SMALL, format_outcome, recovered};
 use ckrt_disk::{Disk, MemoryDisk};
 use ckrt_drive::{Drive, DriveFault, FromDisk, Nobody, Options, RECORD_BYTES, read_offset};
 use ckrt_schedule::ScheduleEnd;
-use ckrt_test_data::{FILLS, SIZE};
+use ckrt_test_storage::{FILLS, SIZE};
 use std::process::Abort;
 
 /// Puts each byte that it reads, and exits at the end of the input.

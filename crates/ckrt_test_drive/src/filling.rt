@@ -6,7 +6,7 @@ use crate::small_disk::{SMALL, format_outcome, recovered};
 use ckrt_disk::{Disk, MemoryDisk};
 use ckrt_recovery::FormatFault;
 use ckrt_stored::fill_up;
-use ckrt_test_data::{IMAGE, SIZE};
+use ckrt_test_storage::{IMAGE, SIZE};
 use std::process::Abort;
 
 /// The writes and syncs of the whole making: the first block and a sync, 84 more blocks, and the eleven calls of formatting.

@@ -4,7 +4,7 @@ use crate::program::Step::{
     self, Absent, EndsWith, Fails, Fill, Holds, Prints, Remove, Usage, Write,
 };
 use crate::program::{LINES, play};
-use ckrt_test_data::IMAGE;
+use ckrt_test_storage::IMAGE;
 use std::fs::{File, Files};
 use std::process::Abort;
 

@@ -2,7 +2,7 @@
 
 use crate::program::Step::{Absent, Ends, EndsWith, Fails, Fill, Holds, Prints, Remove, Write};
 use crate::program::{LINES, Step, play};
-use ckrt_test_data::IMAGE;
+use ckrt_test_storage::IMAGE;
 
 /// The listing of a program that hasn't begun.
 const FRESH: &str =

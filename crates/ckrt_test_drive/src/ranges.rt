@@ -135,7 +135,12 @@ const UNFIT: &[Told] = &[
     (
         "hunt i --memory 1048576",
         JobFault::Range,
-        "--memory goes with --races alone: give another, or leave it out\nckrt: Range\n",
+        "--memory goes with --races or --check alone: give another, or leave it out\nckrt: Range\n",
+    ),
+    (
+        "hunt i --races --check",
+        JobFault::Range,
+        "--check doesn't go with --races: give another, or leave it out\nckrt: Range\n",
     ),
     (
         "check d --from 2 --to 1",

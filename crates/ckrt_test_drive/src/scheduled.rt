@@ -2,7 +2,7 @@
 
 use crate::program::Step::{Ends, EndsWith, Fails, Prints, Remove, Write};
 use crate::program::{Step, play};
-use ckrt_test_data::IMAGE;
+use ckrt_test_storage::IMAGE;
 
 /// The listing of the program that hasn't begun, of a disk that notes no schedule.
 const UNNOTED: &str =

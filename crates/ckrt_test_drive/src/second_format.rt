@@ -3,7 +3,7 @@
 use crate::expect::expect_eq;
 use crate::program::Step::{self, Fails, Prints, Remove, Write};
 use crate::program::{bytes_in, play};
-use ckrt_test_data::{IMAGE, SIZE};
+use ckrt_test_storage::{IMAGE, SIZE};
 use std::fs::{File, Files};
 use std::process::Abort;
 

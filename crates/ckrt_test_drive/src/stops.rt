@@ -7,7 +7,7 @@ use crate::small_disk::{recovered_in_memory, recovery_outcome};
 use ckrt_disk::{MemoryDisk, StoppingDisk};
 use ckrt_drive::{Drive, DriveFault, Nobody, Nothing, Options};
 use ckrt_schedule::ScheduleEnd;
-use ckrt_test_data::{COUNTERS, SLEEPERS};
+use ckrt_test_storage::{COUNTERS, SLEEPERS};
 use std::process::Abort;
 
 /// What a stop lays over the bytes that are pending then, over and over: with an empty one they stay.

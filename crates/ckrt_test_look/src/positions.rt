@@ -5,7 +5,7 @@ use crate::plans::{expect_same, go_to, history_of, plan};
 use ckrt_events::Event;
 use ckrt_gdb_history::{History, Position};
 use ckrt_machine::Machine;
-use ckrt_test_data::{BOUNDED, COUNTERS, PAIR, ROUNDS, SIX_WORDS, SLEEPERS};
+use ckrt_test_storage::{BOUNDED, COUNTERS, PAIR, ROUNDS, SIX_WORDS, SLEEPERS};
 use std::process::Abort;
 
 /// The event, or a run of one step where it is a run.

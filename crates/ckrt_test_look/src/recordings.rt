@@ -7,7 +7,7 @@ use ckrt_events::Event;
 use ckrt_look_recording::{Recording, read_recording};
 use ckrt_machine::Machine;
 use ckrt_recovery::{Config, RecoverFault, Session, format, recover};
-use ckrt_test_data::{IMAGE, SIZE};
+use ckrt_test_storage::{IMAGE, SIZE};
 use std::process::Abort;
 
 /// 16 pages, 1 hart, and a journal of 4,096 bytes.

@@ -3,7 +3,7 @@
 use crate::expect::expect_eq;
 use crate::plans::{go_to, history_of};
 use ckrt_gdb_history::{Breakpoint, History, Position, Stops, Watch, WatchKind};
-use ckrt_test_data::{BOUNDED, COUNTERS, PAIR};
+use ckrt_test_storage::{BOUNDED, COUNTERS, PAIR};
 use std::process::Abort;
 
 /// What stops, and in which guest.

@@ -7,8 +7,8 @@ use crate::hunts::{SHAPE, outcomes_in};
 use arrayvec::ArrayVec;
 use ckrt_drive::Nobody;
 use ckrt_hunt_schedules::{
-    Asked, Awaited, Finished, HuntFault, HuntOnlooker, HuntWatch, Input, LastLine, Made, Outcome,
-    Outcomes, Seeds, Shape, Tally, Told, Verdict, Waiting, hunt_and_tell, write_table,
+    Asked, Awaited, Finished, HuntFault, HuntOnlooker, HuntWatch, Input, LastLine, Look, Made,
+    Outcome, Outcomes, Seeds, Shape, Tally, Told, Verdict, Waiting, hunt_and_tell, write_table,
 };
 use ckrt_rv32i::Cause;
 use std::alloc::Global;
@@ -188,7 +188,7 @@ fn asked_for(first: u64, last: u64) -> Asked<'static>
         seeds: Seeds { first, last },
         may_end: false,
         input: None,
-        races: false,
+        look: Look::Outcomes,
         room: 0,
         all_rows: false,
     }

@@ -7,7 +7,7 @@ use crate::small_disk::{formatted, recovered, recovered_in_memory};
 use ckrt_disk::MemoryDisk;
 use ckrt_main::{ServeFault, serve};
 use ckrt_recovery::Session;
-use ckrt_test_data::IMAGE;
+use ckrt_test_storage::IMAGE;
 use std::cell::Cell;
 use std::io::{self, ErrorKind, Read, Write};
 use std::process::Abort;

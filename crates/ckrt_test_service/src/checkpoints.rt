@@ -11,7 +11,7 @@ use ckrt_disk::{Disk, MemoryDisk, StoppingDisk};
 use ckrt_events::Event;
 use ckrt_machine::{Answer, RunEnd};
 use ckrt_recovery::{CommitFault, Session, SubmitFault};
-use ckrt_test_data::{FILLS, IMAGE};
+use ckrt_test_storage::{FILLS, IMAGE};
 use std::process::Abort;
 
 /// The calls of the disk up to the second checkpoint: a sync of recovery, 4 of a commit, 21 of a checkpoint, 4 of a commit.

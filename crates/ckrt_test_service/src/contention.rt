@@ -1,7 +1,7 @@
 //! Four threads that fight for one mutex: each counts up a shared counter twenty times, in three steps.
 
 use crate::schedules::{NOTHING_ELSE, Schedule, expect_console};
-use ckrt_test_data::COUNTERS;
+use ckrt_test_storage::COUNTERS;
 
 /// Harts, steps in a row, and rounds.
 const SCHEDULES: [Schedule; 5] = [

@@ -11,7 +11,7 @@ use ckrt_disk::{Disk, FailingDisk, StoppingDisk};
 use ckrt_events::Event;
 use ckrt_machine::Machine;
 use ckrt_recovery::{CommitFault, FormatFault, RecoverFault, Session, SubmitFault};
-use ckrt_test_data::{IMAGE, SIZE};
+use ckrt_test_storage::{IMAGE, SIZE};
 use std::process::Abort;
 
 /// The events by number: the thread is placed, puts an `A` by its first three steps, and then takes one more at a time.

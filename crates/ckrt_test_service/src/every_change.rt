@@ -4,7 +4,7 @@
 use crate::expect::{copied, expect_eq_at, memory_disk};
 use crate::small_disk::{formatted, recovery_outcome};
 use ckrt_recovery::RecoverFault;
-use ckrt_test_data::IMAGE;
+use ckrt_test_storage::IMAGE;
 use std::process::Abort;
 
 /// The header of area 0, that of area 1, and the first batches of the two journals.

@@ -5,7 +5,7 @@ use crate::image_service::{expect_replies, push_reply};
 use crate::small_disk::SMALL;
 use ckrt_main::{Config, ServeFault, serve_image};
 use ckrt_memory::{Memory, MemoryError};
-use ckrt_test_data::SIX_WORDS;
+use ckrt_test_storage::SIX_WORDS;
 use std::process::Abort;
 
 /// Puts its argument for ever.

@@ -7,7 +7,7 @@ use ckrt_disk::{Disk, FailingDisk, MemoryDisk};
 use ckrt_events::Event;
 use ckrt_inspect::{InspectFault, Shown, inspect_with};
 use ckrt_recovery::Session;
-use ckrt_test_data::{IMAGE, SIZE};
+use ckrt_test_storage::{IMAGE, SIZE};
 use std::process::Abort;
 
 /// The session takes the event.

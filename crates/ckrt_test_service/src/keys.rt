@@ -1,7 +1,7 @@
 //! Thread-specific data: guests whose destructors run when a thread ends.
 
 use crate::image_service::expect_replies;
-use ckrt_test_data::PUTS_ITS_VALUE;
+use ckrt_test_storage::PUTS_ITS_VALUE;
 
 /// That guest with a destructor that sets the value again.
 const SETS_IT_AGAIN: [u32; 15] = [

@@ -5,7 +5,7 @@ use crate::service::expect_replies;
 use crate::small_disk::{format_outcome, recovered};
 use ckrt_main::serve_image;
 use ckrt_recovery::Config;
-use ckrt_test_data::IMAGE;
+use ckrt_test_storage::IMAGE;
 use std::process::Abort;
 
 /// 1,024 pages, 8 harts, and a journal of 1,048,576 bytes.

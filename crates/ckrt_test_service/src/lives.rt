@@ -8,7 +8,7 @@ use crate::small_disk::{SMALL, recovered_in_memory};
 use ckrt_events::{Command, Event};
 use ckrt_main::{Life, LifeReport, LivesFault, lives};
 use ckrt_recovery::Config;
-use ckrt_test_data::IMAGE;
+use ckrt_test_storage::IMAGE;
 use std::process::Abort;
 
 /// A life of these commands that is stopped at a call, or never.

@@ -10,7 +10,7 @@ use ckrt_disk::{Disk, StoppingDisk};
 use ckrt_events::Event;
 use ckrt_machine::{Answer, Refusal, RunEnd};
 use ckrt_recovery::{RecoverFault, Session, SubmitFault};
-use ckrt_test_data::{AREAS, FILLS, IMAGE, LOOPS, SIX_WORDS};
+use ckrt_test_storage::{AREAS, FILLS, IMAGE, LOOPS, SIX_WORDS};
 use std::process::Abort;
 
 /// Where the journal of area 0 begins.

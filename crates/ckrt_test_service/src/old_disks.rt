@@ -7,7 +7,7 @@ use crate::expect::{
 use crate::service::lived;
 use crate::small_disk::formatted;
 use ckrt_inspect::inspect;
-use ckrt_test_data::{AREAS, PUTS_ITS_VALUE};
+use ckrt_test_storage::{AREAS, PUTS_ITS_VALUE};
 use std::process::Abort;
 
 /// How the program on this disk is listed.

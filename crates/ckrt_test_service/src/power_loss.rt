@@ -13,7 +13,7 @@ use ckrt_disk::{Disk, FailingDisk};
 use ckrt_events::Event;
 use ckrt_machine::{Answer, Machine, RunEnd};
 use ckrt_recovery::{CommitFault, FormatFault, RecoverFault, Session, SubmitFault};
-use ckrt_test_data::{FILLS, IMAGE, SIZE};
+use ckrt_test_storage::{FILLS, IMAGE, SIZE};
 use std::process::Abort;
 
 /// The event is submitted and committed, where the disk doesn't fail.

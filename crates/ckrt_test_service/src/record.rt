@@ -7,7 +7,7 @@ use ckrt_disk::{Disk, MemoryDisk, StoppingDisk};
 use ckrt_drive::{OffsetFault, RECORD_BYTES, checkpoint, read_offset};
 use ckrt_events::Event;
 use ckrt_recovery::{CommitFault, Session, format};
-use ckrt_test_data::{FILLS, IMAGE, SIZE};
+use ckrt_test_storage::{FILLS, IMAGE, SIZE};
 use std::process::Abort;
 
 /// The slot of area 1 after the first checkpoint, of two events that took five bytes: the name, version 1, generation 2, two

@@ -5,7 +5,7 @@ use crate::expect::{expect_eq, expect_eq_at, lay, memory_disk, stopping_disk};
 use crate::small_disk::{formatted, recovered, recovered_in_memory, recovery_outcome};
 use ckrt_disk::{Disk, FailingDisk, MemoryDisk};
 use ckrt_recovery::RecoverFault;
-use ckrt_test_data::SIZE;
+use ckrt_test_storage::SIZE;
 use std::process::Abort;
 
 const FIRST_AREA: usize = 4_096;

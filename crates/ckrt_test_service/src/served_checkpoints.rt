@@ -6,7 +6,7 @@ use crate::sessions::expect_checkpoint;
 use crate::small_disk::{formatted, recovered, recovered_in_memory};
 use ckrt_disk::Disk;
 use ckrt_recovery::{CommitFault, Session};
-use ckrt_test_data::IMAGE;
+use ckrt_test_storage::IMAGE;
 use std::process::Abort;
 
 /// The generation in use, and how many bytes the journal has left for batches.

@@ -6,7 +6,7 @@ use crate::small_disk::{SMALL, formatted, recovered, recovered_in_memory, recove
 use ckrt_disk::{Disk, FailingDisk, MemoryDisk};
 use ckrt_main::{ServeFault, serve, serve_image};
 use ckrt_recovery::Session;
-use ckrt_test_data::{FILLS, IMAGE};
+use ckrt_test_storage::{FILLS, IMAGE};
 use std::io::{self, ErrorKind, Read, Write};
 use std::ops::RangeInclusive;
 use std::process::Abort;

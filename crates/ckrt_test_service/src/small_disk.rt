@@ -3,7 +3,7 @@
 use crate::expect::{expect_eq, filled, memory_disk};
 use ckrt_disk::{Disk, MemoryDisk};
 use ckrt_recovery::{Config, FormatFault, Session, Unrecovered, format, recover};
-use ckrt_test_data::SIZE;
+use ckrt_test_storage::SIZE;
 use std::process::Abort;
 
 /// 16 pages, 1 hart, and a journal of 4,096 bytes.

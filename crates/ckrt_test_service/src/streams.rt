@@ -4,7 +4,7 @@ use crate::expect::{expect_bytes, expect_eq, push};
 use crate::image_service::{expect_replies, push_reply};
 use crate::small_disk::SMALL;
 use ckrt_main::serve_image;
-use ckrt_test_data::IMAGE;
+use ckrt_test_storage::IMAGE;
 use std::io::{self, Read};
 use std::process::Abort;
 

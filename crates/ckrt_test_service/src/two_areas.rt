@@ -13,7 +13,7 @@ use ckrt_disk::{Disk, MemoryDisk};
 use ckrt_events::Event;
 use ckrt_machine::{Answer, RunEnd};
 use ckrt_recovery::Session;
-use ckrt_test_data::IMAGE;
+use ckrt_test_storage::IMAGE;
 use std::process::Abort;
 
 /// Where the areas begin.

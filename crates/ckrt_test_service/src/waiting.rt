@@ -1,7 +1,7 @@
 //! Guests whose threads wait: at conditions and barriers, for locks, for moments, and for input. Each puts the same bytes under every schedule.
 
 use crate::schedules::{Around, NOTHING_ELSE, SCHEDULES, expect_console};
-use ckrt_test_data::{BOUNDED, PAIR, READERS, ROUNDS, SLEEPERS};
+use ckrt_test_storage::{BOUNDED, PAIR, READERS, ROUNDS, SLEEPERS};
 
 #[test]
 fn bounded_buffer(rt: HostRuntime) {

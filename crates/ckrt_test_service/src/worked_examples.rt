@@ -11,7 +11,7 @@ use ckrt_inspect::inspect;
 use ckrt_machine::{Answer, RunEnd};
 use ckrt_recovery::{CommitFault, Session};
 use ckrt_rv32i::Cause;
-use ckrt_test_data::IMAGE;
+use ckrt_test_storage::IMAGE;
 use std::process::Abort;
 
 /// How a session's program stands.

@@ -11,12 +11,12 @@ use crate::expect::{
     stopping_disk,
 };
 use crate::small_disk::{SMALL, formatted};
+use crate::{FILLS, IMAGE, SIZE};
 use ckrt_calls::Tables;
 use ckrt_disk::Disk;
 use ckrt_memory::Memory;
 use ckrt_stored::{Area, AreaFault, SavePoint, pick_area, read_area, write_area};
 use ckrt_tables::{HELD_LIMIT, Held, TABLES_ROOM, encode_tables};
-use ckrt_test_data::{FILLS, IMAGE, SIZE};
 use std::process::Abort;
 
 /// Where area 1 begins, and its journal.

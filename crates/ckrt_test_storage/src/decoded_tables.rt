@@ -2,10 +2,10 @@
 
 use crate::expect::{bytes_of, expect_eq, expect_eq_at, push, push_zeros};
 use crate::saved_tables::{bytes_of_everything, expect_encoding};
+use crate::{BEHIND_THREAD, FRESH, INITIAL_THREAD, OLD_FRESH};
 use ckrt_calls::{Status, Tables};
 use ckrt_rv32i::Cause;
 use ckrt_tables::{Held, LONGEST_TABLES, decode_tables};
-use ckrt_test_data::{BEHIND_THREAD, FRESH, INITIAL_THREAD, OLD_FRESH};
 use std::process::Abort;
 
 /// What bytes of a version decode to.

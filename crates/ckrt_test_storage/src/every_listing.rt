@@ -1,5 +1,6 @@
 //! A listing with a line of every kind, written down from the format.
 
+use crate::EVERYTHING;
 use crate::expect::{bytes_of, expect_bytes, expect_eq};
 use ckrt_calls::{Status, Tables};
 use ckrt_inspect::{write_listing, write_listing_with_code};
@@ -7,7 +8,6 @@ use ckrt_machine::Machine;
 use ckrt_memory::Memory;
 use ckrt_rv32i::Cause;
 use ckrt_tables::decode_tables;
-use ckrt_test_data::EVERYTHING;
 use std::process::Abort;
 
 /// A memory of zeros but for one instruction, at 0x1004.

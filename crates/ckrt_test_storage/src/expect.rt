@@ -3,8 +3,8 @@
 
 ghost use Rattle.std.specs.Prelude.{IsTrue, ◌+◌, ◌≤◌};
 
+use crate::Piece;
 use ckrt_disk::{DeviceFault, Disk, MemoryDisk, StoppingDisk};
-use ckrt_test_data::Piece;
 use std::fmt::{Debug, Display};
 use std::fs::{self, File, Files};
 use std::process::Abort;

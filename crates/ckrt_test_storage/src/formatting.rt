@@ -2,9 +2,9 @@
 
 use crate::expect::{expect_eq, expect_eq_at, expect_part, filled, memory_disk, stopping_disk};
 use crate::small_disk::{SMALL, expect_format, format_outcome};
+use crate::{IMAGE, SIZE};
 use ckrt_disk::{Disk, FailingDisk};
 use ckrt_stored::{Config, FormatFault};
-use ckrt_test_data::{IMAGE, SIZE};
 use std::process::Abort;
 
 /// Offsets, and the bytes from there on.

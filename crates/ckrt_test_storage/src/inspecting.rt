@@ -2,13 +2,13 @@
 //!
 //! The batches and the listings were written down from the formats, and the digests are those of `sha256sum`.
 
+use crate::SIZE;
 use crate::expect::{
     copied, expect_bytes, expect_eq, expect_eq_at, filled, image_of, lay, memory_disk,
 };
 use crate::small_disk::formatted;
 use ckrt_disk::{Disk, FailingDisk};
 use ckrt_inspect::{InspectFault, Shown, inspect, inspect_with};
-use ckrt_test_data::SIZE;
 use std::io::{self, ErrorKind, Write};
 use std::process::Abort;
 

@@ -1,6 +1,7 @@
 //! Saved tables, and their bytes as the format lists them.
 
 use crate::expect::{bytes_of, expect_bytes, expect_eq, expect_eq_at, filled};
+use crate::{EVERYTHING, FRESH};
 use arrayvec::ArrayVec;
 use circular_buffer::HeapCircularBuffer;
 use ckrt_barrier::{Barrier, Barriers};
@@ -10,7 +11,6 @@ use ckrt_objects::Entry;
 use ckrt_rv32i::Regs;
 use ckrt_rwlock::{RwLock, RwLocks};
 use ckrt_tables::{HELD_LIMIT, Held, TABLES_ROOM, encode_tables};
-use ckrt_test_data::{EVERYTHING, FRESH};
 use ckrt_thread::{
     Cancellation, Handler, Keys, Live, MAX_HANDLERS, MAX_KEYS, Reason, RetakeResult, SpecificData,
     Thread, ThreadId, Threads, Wait,

@@ -1,9 +1,9 @@
 //! The small disk of these tests.
 
+use crate::SIZE;
 use crate::expect::{expect_eq, filled, memory_disk};
 use ckrt_disk::Disk;
 use ckrt_stored::{Config, FormatFault, format};
-use ckrt_test_data::SIZE;
 use std::process::Abort;
 
 /// 16 pages, 1 hart, and a journal of 4,096 bytes.

@@ -20,7 +20,7 @@ returns g c =
     let given = c.in_ok-input.ensures in
     let guest = c.deref.result.now in
     let input = c.input_over-given.result in
-    let asked : Asked = record { image = job.image; shape = c.ignoring_output-shape.result; seeds = c.in-Some-seeds_for.seeds; may_end = c.is_some.result; input = job.input; races = job.races; room = c.room_of.result; all_rows = job.all_rows } in
+    let asked : Asked = record { image = job.image; shape = c.ignoring_output-shape.result; seeds = c.in-Some-seeds_for.seeds; may_end = c.is_some.result; input = job.input; look = c.look_of.result; room = c.room_of.result; all_rows = job.all_rows } in
     let h = c.hunt_image.ensures.hunts in
     let old = g.S.Closes.openings c.args.sources.now in
     let new = g.S.Closes.openings c.hunt_image.new.sources in
@@ -47,7 +47,7 @@ returns g c =
             input = input;
             is_input = input_before known (g.S.Sources.image_bytes c.fitting_image.new.sources) read.same.images path _ (subst (λ bytes. IsAskedInput (g.S.Sources.image_bytes c.fitting_image.new.sources) path bytes) (sym c.input_over-given.ensures) given.bytes);
             asked = asked;
-            is_asked = record { in_range = in_range; image = refl; shape = ap (λ n. Some n) c.ignoring_output-shape.ensures.numbers ∙ c.in-Some.ensures; seeds = c.in-Some-seeds_for.ensures; may_end = c.is_some.ensures; input = refl; races = refl; room = c.room_of.ensures; output = c.ignoring_output-shape.ensures.output; all_rows = refl };
+            is_asked = record { in_range = in_range; image = refl; shape = ap (λ n. Some n) c.ignoring_output-shape.ensures.numbers ∙ c.in-Some.ensures; seeds = c.in-Some-seeds_for.ensures; may_end = c.is_some.ensures; input = refl; look = c.look_of.ensures; room = c.room_of.ensures; output = c.ignoring_output-shape.ensures.output; all_rows = refl };
             told = h.0;
             table = h.1;
             tells = h.2;

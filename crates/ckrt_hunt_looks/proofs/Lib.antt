@@ -1,0 +1,9 @@
+mod RowLemmas
+mod WalkLemmas
+mod ReadyLemmas
+mod NotedLemmas
+mod HuntLemmas
+mod RaceLemmas
+mod ErrorLemmas
+mod TableLemmas
+mod LawLemmas

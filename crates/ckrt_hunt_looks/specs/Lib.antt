@@ -1,0 +1,9 @@
+pub mod Rows
+pub mod Kinds
+pub mod Looks
+pub mod Walks
+pub mod Races
+pub mod Errors
+pub mod FoundTable
+pub mod Hunts
+pub mod Laws

@@ -1,8 +1,0 @@
-mod RowLemmas
-mod SizeLemmas
-mod WalkLemmas
-mod ReadyLemmas
-mod NotedLemmas
-mod TableLemmas
-mod CycleLemmas
-mod LawLemmas

@@ -1,5 +1,0 @@
-use Rattle.ckrt_hunt_races.proofs.LawLemmas.{only_cycles}
-use Rattle.ckrt_hunt_races.proofs.laws.only_cycles_are_told.Goals as goal
-
-pub returns : goal.returns
-returns c = only_cycles

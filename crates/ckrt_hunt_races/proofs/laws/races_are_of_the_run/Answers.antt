@@ -1,5 +1,0 @@
-use Rattle.ckrt_hunt_races.proofs.LawLemmas.{of_the_run}
-use Rattle.ckrt_hunt_races.proofs.laws.races_are_of_the_run.Goals as goal
-
-pub returns : goal.returns
-returns c = of_the_run

@@ -1,0 +1,3 @@
+pub mod FullLemmas
+pub mod PartLemmas
+pub mod WalkLemmas

@@ -1,0 +1,2 @@
+pub mod Steppings
+pub mod Walks

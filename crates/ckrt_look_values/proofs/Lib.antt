@@ -1,0 +1,4 @@
+pub mod CheckLemmas
+pub mod FoundLemmas
+pub mod FreshLemmas
+pub mod ListLemmas
