@@ -10,6 +10,7 @@ from dataclasses import dataclass, field
 from pathlib import Path
 from random import Random
 
+from cases.checked import CheckedCase, difference_of_checked
 from cases.debugged import DebuggedCase, difference_of_debugged
 from cases.drives import DrivesCase, difference_of_drives
 from cases.formats import FormatCase
@@ -334,7 +335,7 @@ OF_DISK = {
     ProfilesCase: difference_of_profiles, RacesCase: difference_of_races, NestedCase: difference_of_races, LockersCase: difference_of_races, ChecksCase: difference_of_checks, CutCase: difference_behind_cut,
 }
 OF_FOLDER = {
-    FormatCase: difference_of_format, TimedCase: difference_of_timed, RacedCase: difference_of_raced, HuntsCase: difference_of_hunts,
+    FormatCase: difference_of_format, TimedCase: difference_of_timed, RacedCase: difference_of_raced, CheckedCase: difference_of_checked, HuntsCase: difference_of_hunts,
     ManyCase: difference_of_many,
     WordsCase: difference_of_words,
 }

@@ -12,8 +12,9 @@ from model.assembler import Branch, add_immediate, call_words, immediate_form, l
 from model.checks import Checks
 from model.layout import Geometry, format_disk
 from model.lines import serve_disk
+from model.values import Values
 
-HEAP, SLOTS, SLOT = 0x2800, 9, 32  # where blocks may be, of a slot each
+HEAP, SLOTS, SLOT = 0x2800, 21, 32  # where blocks may be, of a slot each
 PIECES = 10  # of a thread's round
 LOADS, STORES = [2, 2, 0, 1, 4, 5], [2, 2, 0, 1]  # by funct3
 BYTES = [1, 4, 5, 6, 7, 12, 13, 20, 28, 28]  # that are asked for
@@ -24,6 +25,8 @@ HEAP_LOCKS = [2, 2, 2, 1, 3, 4, 0x2002]
 
 class Heaped(Nested):
     """Each slot is one thread's, and that one alone takes a block there; any may use it, give it back, or say that it is nobody's."""
+
+    more_threads = 0
 
     def __init__(self, chance):
         self.taken, self.locked_share = {}, chance.choice([0, 0.1, 0.3])
@@ -60,7 +63,7 @@ class Heaped(Nested):
         return HEAP + SLOT * slot
 
     def seen(self):
-        words = self.chance.choices([self.take, self.used, self.freed, self.left, self.wild], [4, 8, 3, 0.5, 1])[0]()
+        words = self.chance.choices([self.take, self.used, self.freed, self.left, self.wild], [4, 8, 3, 1.5, 1])[0]()
         if self.chance.random() < self.locked_share:
             lock = self.chance.choice(HEAP_LOCKS)
             return [*call_words(Call.MUTEX_LOCK, lock), *words, *call_words(Call.MUTEX_UNLOCK, lock)]
@@ -92,13 +95,18 @@ class Heaped(Nested):
         return self.compared(self.address(slot) + self.chance.choice([0, 1, 2, 5, 8, 12, 28]), 0, False)
 
     def left(self):
-        """A stack whose thread has ended."""
+        """A stack whose thread has ended; at times it is given back then, rightly or wrongly."""
         slot = self.any_slot()
-        return self.compared(self.address(slot) + 4, 4 * self.chance.choice([1, 3, 7, 7]), False)
+        again = self.compared(self.address(slot) + self.chance.choice([4, 5, 8, 8, 12, 16]), 0, False) if self.chance.random() < 0.6 else []
+        uses = self.use_of(slot) if self.chance.random() < 0.3 else []
+        return [*self.compared(self.address(slot) + 4, 4 * self.chance.choice([1, 3, 7, 7]), False), *uses, *again]
 
     def used(self):
+        return self.use_of(self.any_slot())
+
+    def use_of(self, slot):
         """By any load or store, from the heap's own word on."""
-        slot, is_store = self.any_slot(), self.chance.random() < 0.5
+        is_store = self.chance.random() < 0.5
         kind = self.chance.choice(STORES if is_store else LOADS)
         width = 1 << (kind & 3)
         at = self.chance.choice([4, 4, 8, self.chance.randrange(SLOT)]) & -width
@@ -122,11 +130,10 @@ class ChecksCase(RacesCase):
     count: int
 
 
-def checks_case(chance, seed):
+def checks_case(chance, guest):
     """Most begin with the first thread, up to where it has made the others and said of the heap that it is nobody's."""
-    guest = Heaped(chance)
     disk = format_disk(Geometry(16, 1, 65536), guest.image)
-    turns = [(1, chance.choice([30, 60])), *[(chance.randrange(1, guest.threads + 2), chance.choice([5, 20, 60, 150])) for _ in range(chance.choice([40, 80]))]]
+    turns = [(1, chance.choice([30, 60])), *[(chance.randrange(1, guest.threads + guest.more_threads + 2), chance.choice([5, 20, 60, 150])) for _ in range(chance.choice([40, 80]))]]
     turns += [(1, 3000)] * (chance.random() < 0.6)
     lines = [line for thread, steps in turns for line in (b"place 0 %d" % thread, b"run 0 %d" % steps)]
     serve_disk(disk, joined(chance, [*lines, b"commit"]))
@@ -142,21 +149,31 @@ def difference_of_checks(ckrt, case, path, tally):
     for stretch, count in product(case.stretches, (None, case.count)):
         words = [*options, *(["--last", str(count)] if count else [])]
         got, expected = glance_of_program(ckrt, "check", path, stretch, *words), []
-        for reading in READINGS:
-            checks, fault = shown(recording, unrecovered, stretch, Checks(case.rows, *reading))
-            if checks and count:
-                checks = recording.show(Checks(case.rows, *reading), *last_of(recording, stretch, count))
-            expected.append(fault or glance_of_lines(checks.lines()))
-            if got == expected[-1]:
+        for both in both_shown(recording, unrecovered, stretch, count, case.rows):
+            expected.append(both)
+            if got == both:
                 break
         else:
             return f"check (from, to {stretch}, last {count}): {place_of_difference(expected[0], got)}"
-        tally["checks", fault.fault[6:] if fault else "shown"] += 1
-        tally.update(("line of errors of memory", kind_of_line(line)) for line in expected[-1].text.splitlines())
+        tally["checks", got.fault[6:] if got.status else "shown"] += 1
+        tally.update(("line of errors of memory", kind_of_line(line)) for line in got.text.splitlines())
     return None if path.read_bytes() == case.contents else "check changed the disk's bytes"
+
+
+def both_shown(recording, unrecovered, stretch, count, rows):
+    """The errors by each reading, and after them what hangs on values that were never stored; or the fault."""
+    values, fault = shown(recording, unrecovered, stretch, Values(rows))
+    if fault:
+        yield fault
+        return
+    ends = last_of(recording, stretch, count) if count else recording.ends(*stretch)
+    values = recording.show(Values(rows), *ends) if count else values
+    for reading in READINGS:
+        yield glance_of_lines(recording.show(Checks(rows, *reading), *ends).lines() + values.lines())
 
 
 def kind_of_line(line):
     """What is done, and what is wrong with it; or the first words of another line."""
-    done = re.fullmatch(r"\d+\+\d+ thread \d+ (\w+) \w+ pc \w+ (.*), (once|\d+ times)", line)
-    return f"{done[1]} {done[2]}" if done else re.sub(r" *(?:\d+\+\d+ thread \d+ )?(called|ended|given back|in a block|and|no errors|never|events)\b.*", r"\1", line)
+    done = re.fullmatch(r"\d+\+\d+ thread \d+ (\w+)(?: [0-9a-f]+)? pc \w+ (.*), (once|\d+ times)", line)
+    others = r" *(?:\d+\+\d+ thread \d+ )?(called|ended|given back|in a block(?: that was taken)?|in a frame|and|no errors|never|events)\b.*"
+    return f"{done[1]} {done[2]}" if done else re.sub(others, r"\1", line)

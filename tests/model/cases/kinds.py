@@ -4,6 +4,7 @@ from random import Random
 
 from cases.call_by_call import Script, flavour_of
 from cases.callers import Caller, Digger
+from cases.checked import checked_case
 from cases.computations import computation
 from cases.crowded import Weaver, dense_case
 from cases.damage import Damage
@@ -13,7 +14,6 @@ from cases.formats import format_case
 from cases.glances import races_case, timelines_case
 from cases.guests import Guest
 from cases.halts import halts_case
-from cases.heaped import checks_case
 from cases.histories import histories_case
 from cases.hunted import hunts_case
 from cases.images import images_case
@@ -37,6 +37,7 @@ from cases.stepped import stepped_case
 from cases.streams import joined, last_lines, malformed_line, mangled, random_lines, with_long_runs
 from cases.timed import timed_case
 from cases.traced import cuts_case, fates_case, listings_case, lists_case, parts_case
+from cases.unstored import drawn_checks_case
 from cases.words import words_case
 from model.abi import Call
 from model.assembler import call_words, image_of, jump_form
@@ -256,12 +257,12 @@ KINDS = {
     "stopped": stopped_case, "checkpoints": checkpoints_case, "formats": format_case, "lists": of_guest(lists_case),
     "fates": of_guest(fates_case), "parts": of_guest(parts_case), "listings": of_guest(listings_case), "cuts": cuts_case,
     "histories": of_guest(histories_case), "races": of_guests(PartSharer, races_case, 0.9), "kit": kitted_case, "orders": orders_case, "nested": nested_case, "cycles": cycles_case,
-    "checks": checks_case,
+    "checks": drawn_checks_case,
     "timelines": of_sharers(timelines_case, 0.4),
     "hunts": hunts_case, "debugged": of_sharers(debugged_case, 0.4), "moved": of_sharers(moved_case, 0.6),
     "stepped": of_sharers(stepped_case, 0.6),
     "profiles": profiled_case, "dense": of_guests(Weaver, dense_case, 1),
-    "lived": of_guests(Living, lived_case, 1), "timed": timed_case, "raced": raced_case, "many": many_case,
+    "lived": of_guests(Living, lived_case, 1), "timed": timed_case, "raced": raced_case, "checked": checked_case, "many": many_case,
     "words": words_case, "drives": of_guest(drives_case), "halts": of_guest(halts_case),
     "inputs": of_guest(inputs_case), "images": of_guest(images_case), "schedules": of_guest(schedules_case), "mixed": of_guest(mixed_case), "rounds": rounds_case,
 }

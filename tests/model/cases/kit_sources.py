@@ -108,10 +108,11 @@ class Source:
 
 class Heaps(Source):
     """Its threads take blocks, use them and give them back. Some uses are wrong: loads beside a block and of one that was given back, and stores to
-    bytes behind its last one that share a word with it. Some blocks are never given back."""
+    bytes behind its last one that share a word with it. Some blocks are never given back. Branches, addresses and outputs hang on bytes of blocks and of
+    frames, some of which were never stored."""
 
     def block(self, count):
-        return "".join(f"    {line}\n" for _ in range(count) for line in self.chance.choice([self.taken, self.taken, self.moved, self.guarded, self.printed])())
+        return "".join(f"    {line}\n" for _ in range(count) for line in self.chance.choice([self.taken, self.taken, self.moved, self.unstored, self.unstored, self.guarded, self.printed])())
 
     def taken(self):
         self.names += 1
@@ -140,3 +141,15 @@ class Heaps(Source):
         loads = [f"if ({name}[{sizes[0] - 1}] == 77) exit(1);"] if self.chance.random() < 0.4 else []
         return [f"volatile char *volatile {name} = malloc({sizes[0]});", f"volatile char *volatile {name}_again = realloc((void *){name}, {sizes[1]});",
                 *self.used(f"{name}_again", sizes[1]), *loads, *self.given_back(f"{name}_again", sizes[1])]
+
+    def unstored(self):
+        """Some bytes are stored; one is used, by itself or in a copy."""
+        self.names += 1
+        chance, name, size = self.chance, f"unstored_{self.names}", self.chance.choice([4, 5, 8, 12])
+        is_block = chance.random() < 0.5
+        made = [f"volatile char *volatile {name} = malloc({size});"] if is_block else [f"volatile char {name}[{size}];"]
+        stores = [f"{name}[{at}] = {chance.choice([0, 1, 65])};" for at in chance.sample(range(size), 2)]
+        copy = [f"char {name}_copy[{size}];", f"memcpy({name}_copy, (void *){name}, {size});"] if chance.random() < 0.4 else []
+        byte = f"((volatile char *){name}{'_copy' if copy else ''})[{chance.randrange(size)}]"
+        use = chance.choice([f"if ({byte} == 77) shared[0]++;", f"if ({byte} & 4) shared[0]++;", f"shared[{byte} & 1] = 1;", f"putchar({byte} & 1 | 64);", f"shared[0] += {byte};"])
+        return [*made, *stores, *copy, use, *([f"free((void *){name});"] if is_block else [])]

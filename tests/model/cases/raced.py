@@ -52,7 +52,23 @@ class Crossing:
 
 @dataclass
 class RacedCase(HuntsCase):
-    """The options ask for races."""
+    """The options ask for races. `more` are words that change nothing, and that no command repeats."""
+    more = ()
+
+    def look(self, recording):
+        """What is looked for in a run, by each reading."""
+        return recording.show(Readings())
+
+    def difference_of_told(self, shown, runs, kept=()):
+        return difference_of_told(shown, runs, self.options, kept)
+
+    def difference_of_glance(self, ckrt, disk, recording, readings):
+        return difference_of_glance(ckrt, disk, recording, readings)
+
+    def tell_kinds(self, runs, tally):
+        narrow, wide = tables_of(runs, self.options)
+        tally["hunt for races", "shown" if narrow == wide else "left open"] += 1
+        tally.update(("race of a hunt", kind_of_race(line)) for line in narrow[1] if line.startswith(ROWS))
 
 
 def raced_case(chance, seed):
@@ -66,10 +82,10 @@ def raced_case(chance, seed):
 
 @dataclass
 class Run:
-    """A seed's run as it was drawn: what it comes to, its switches, its races by each reading, the bytes of its disk, and what it said."""
+    """A seed's run as it was drawn: what it comes to, its switches, what is looked for in it by each reading, the bytes of its disk, and what it said."""
     outcome: str
     switches: int
-    readings: Readings
+    readings: object
     disk: bytes
     said: str | None = None
 
@@ -101,11 +117,15 @@ def difference_of_told(shown, runs, options, kept=()):
     if narrow != wide:
         wanted, last = table_of(runs, options), [*lines_of_cycles(runs, options), *kept]
         return None if lines[:len(wanted)] == wanted and lines[-len(last):] == last else f"model {wanted}, {last}, program {lines}"
-    wanted = [*narrow[1], *kept]
-    if (status, lines) == (narrow[0], wanted):
+    return difference_of_tables(shown, narrow, kept)
+
+
+def difference_of_tables(shown, table, kept):
+    wanted, (status, lines) = [*table[1], *kept], shown
+    if (status, lines) == (table[0], wanted):
         return None
     unlike = next((pair for pair in zip(wanted, lines) if pair[0] != pair[1]), (f"{len(wanted)} lines", f"{len(lines)} lines"))
-    return f"model {narrow[0]} {unlike[0]!r}, program {status} {unlike[1]!r}"
+    return f"model {table[0]} {unlike[0]!r}, program {status} {unlike[1]!r}"
 
 
 def difference_of_glance(ckrt, disk, recording, readings):
@@ -122,9 +142,9 @@ def difference_of_drawn(ckrt, case, folder, seed):
     if difference:
         return None, difference
     disk = folder / "kept"
-    run = Run(kept.outcome, kept.folded.switches, kept.recording.show(Readings()), disk.read_bytes(), said_of(kept.folded))
+    run = Run(kept.outcome, kept.folded.switches, case.look(kept.recording), disk.read_bytes(), said_of(kept.folded))
     told = [line_of_kept(seed, "kept", run.switches, None)]
-    return run, difference_of_told((kept.status, kept.lines), {seed: run}, case.options, told) or difference_of_glance(ckrt, disk, kept.recording, run.readings)
+    return run, case.difference_of_told((kept.status, kept.lines), {seed: run}, told) or case.difference_of_glance(ckrt, disk, kept.recording, run.readings)
 
 
 def difference_of_folder(ckrt, case, folder, runs):
@@ -133,7 +153,7 @@ def difference_of_folder(ckrt, case, folder, runs):
     wanted = {f"folder/outcome-{number}.disk": row.first for number, row in shown.items()}
     (folder / "folder").mkdir()
     told = [line_of_kept(seed, path, runs[seed].switches, None) for path, seed in wanted.items()]
-    difference = difference_of_told(hunt(ckrt, folder, case.seeds, case.options, "--keep", "folder/"), runs, case.options, told)
+    difference = case.difference_of_told(hunt(ckrt, folder, case.seeds, case.options, *case.more, "--keep", "folder/"), runs, told)
     there = {f"folder/{file.name}": file.read_bytes() for file in (folder / "folder").iterdir()}
     for file in (folder / "folder").iterdir():
         file.unlink()
@@ -152,18 +172,16 @@ def difference_of_raced(ckrt, case, folder, tally):
         runs[seed], difference = difference_of_drawn(ckrt, case, folder, seed)
         if difference:
             return f"seed {seed}: {difference}"
-    narrow, wide = tables_of(runs, case.options)
-    tally["hunt for races", "shown" if narrow == wide else "left open"] += 1
-    tally.update(("race of a hunt", kind_of_race(line)) for line in narrow[1] if line.startswith(ROWS))
-    difference = difference_of_told(hunt(ckrt, folder, case.seeds, case.options), runs, case.options) or difference_of_folder(ckrt, case, folder, runs)
+    case.tell_kinds(runs, tally)
+    difference = case.difference_of_told(hunt(ckrt, folder, case.seeds, case.options), runs) or difference_of_folder(ckrt, case, folder, runs)
     if difference:
         return f"table: {difference}"
     return difference_of_plain(ckrt, case, folder, runs)
 
 
 def difference_of_plain(ckrt, case, folder, runs):
-    """Who doesn't ask for races gets the same outcomes."""
-    options = replace(case.options, is_raced=False)
+    """Who doesn't ask for a look gets the same outcomes."""
+    options = replace(case.options, is_raced=False, is_checked=False)
     expected = status_of([run.outcome for run in runs.values()]), table_of(runs, options)
     shown = hunt(ckrt, folder, case.seeds, options)
-    return None if shown == expected else f"without races: model {expected}, program {shown}"
+    return None if shown == expected else f"unasked: model {expected}, program {shown}"

@@ -20,16 +20,19 @@ LATER = {State.GIVEN_BACK: "given back", State.ENDED: "ended"}
 
 @dataclass
 class Wrong:
-    """What was done at a place, the first time, and how often; and the lines of the block that has the address, as it was then."""
+    """What was done at a place, the first time, and how often; the lines of the block that has the address, as it was then, and what register 1 had."""
     text: str
     moment: Moment
     block: list
+    back: int
     count: int = 1
+
+    def line(self):
+        return f"{position_text(self.moment.position)} thread {self.moment.thread} {self.text}, {times(self.count)}"
 
     def lines(self):
         moment = self.moment
-        return [f"{position_text(moment.position)} thread {moment.thread} {self.text}, {times(self.count)}",
-                *lines_of_callers(moment.position, moment.thread, moment.callers), *self.block]
+        return [self.line(), *lines_of_callers(moment.position, moment.thread, moment.callers), *self.block]
 
 
 def lines_of_told(told):
@@ -104,9 +107,13 @@ class Checks:
         if key in self.wrongs:
             self.wrongs[key].count += 1
         elif len(self.wrongs) < PLACES:
-            self.wrongs[key] = Wrong(f"{what} pc {address_text(place)} {fault}", moment, lines_of_told(told))
+            self.wrongs[key] = Wrong(f"{what} pc {address_text(place)} {fault}", moment, lines_of_told(told), back)
         else:
             self.others += 1
+
+    def errors(self):
+        """None where the events don't tell which memory is no block's."""
+        return self.wrongs if self.is_told else {}
 
     def lines(self):
         """The errors in the order in which they were found, and then what wasn't given back."""

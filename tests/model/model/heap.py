@@ -92,9 +92,13 @@ class Heap:
         told = self.freed(address)
         if told.state is State.GIVEN_BACK:
             return "in a block that was given back"
-        if told.block:
-            return None if address == told.block.begin else "inside a block"
-        return "in no block"
+        if told.block is None:
+            return "in no block"
+        if self.is_by_word_before and told.state is State.ENDED:
+            return "in a stack that has ended"
+        if address == told.block.begin:
+            return None
+        return "in a stack that has ended" if told.state is State.ENDED else "inside a block"
 
     def give_back(self, address, moment):
         """All words that were told of last as that block's."""

@@ -21,7 +21,7 @@ MOST_OUTCOMES = 64  # of a kind, that are told apart
 MOST_OUTPUTS = 3  # of `exit 0`, that have lines of their own without --rows
 MOST_SEEDS = 10  # of an outcome, whose runs are shortened
 KINDS = "fault", "deadlock", "exit ", "no end", "waits for input", "exit 0"  # by what an outcome's text begins with, in the order of a table
-SEVERAL = 8  # the status where there are several outcomes, or a race
+SEVERAL = 8  # the status where there are several outcomes, or a race or an error of memory
 BAD = 9  # that where all runs had one outcome, which isn't `exit 0`
 AWAITED = {WaitKind.JOIN: "the end of thread {}", WaitKind.LOCK: "mutex {}", WaitKind.RETAKE: "mutex {}", WaitKind.CONDITION: "condition {}",
            WaitKind.BARRIER: "barrier {}", WaitKind.READ: "read lock {}", WaitKind.WRITE: "write lock {}"}
@@ -146,10 +146,12 @@ class Options:
     input: str | None = None  # the path of the file that each run reads
     is_raced: bool = False  # whether each run is looked at for races
     ignores_output: bool = False  # whether outcomes that differ in their output alone are one
+    is_checked: bool = False  # whether each run is looked at for errors of memory
 
     def words(self):
         fed = f" --input {self.input}" if self.input else ""
-        asked = f"{' --races' if self.is_raced else ''}{' --ignore-output' if self.ignores_output else ''}"
+        looks = f"{' --races' if self.is_raced else ''}{' --check' if self.is_checked else ''}"
+        asked = f"{looks}{' --ignore-output' if self.ignores_output else ''}"
         return f"--pages {self.pages} --harts {self.harts} --steps {self.steps}{fed}{asked}"
 
 
@@ -216,7 +218,7 @@ def lines_of_table(image, outcomes, options, said=None, has_rows=False):
 
 
 def status_of(outcomes, found=()):
-    """Of the outcomes of all runs, and of what was found in each by a look at races."""
+    """Of the outcomes of all runs, and of what was found in each by a look at it."""
     kinds = {KINDS[kind_of(outcome)] for outcome in outcomes}
     if len(set(outcomes)) > 1 or any(found):
         return SEVERAL

@@ -1,11 +1,12 @@
-"""The rows of races and of cycles of locks in a table of `ckrt hunt --races`: those of some runs; and read back, what has to hold of them whatever
-runs there were."""
+"""The rows of races and of cycles of locks in a table of `ckrt hunt --races`, and of errors in one of `ckrt hunt --check`: those of some runs; and of
+the former read back, what has to hold of them whatever runs there were."""
 import re
 from dataclasses import dataclass
 from typing import Callable
 
 from model.cycle_texts import cycle_text
 from model.hunts import command_of
+from model.listing import address_text
 from model.races import PAIRS, text_of_pair
 
 ADDRESS = "([0-9a-f]{8})"
@@ -23,8 +24,8 @@ class Rows:
     many: str
     found: Callable
     text: Callable
-    places: Callable
-    key: Callable
+    places: Callable | None = None
+    key: Callable | None = None
 
 
 def places_of_pair(text):
@@ -45,6 +46,7 @@ def key_of_cycle(places):
 
 RACES = Rows("race", "races", lambda races: races.pairs, text_of_pair, places_of_pair, lambda places: frozenset(f"{place:08x}" for place in places))
 CYCLES = Rows("lock cycle", "lock cycles", lambda known: known.cycles, cycle_text, places_of_cycle, key_of_cycle)
+ERRORS = Rows("error", "errors of memory", lambda checks: checks.wrongs, lambda wrong: f"{wrong.line()}, x1 {address_text(wrong.back)}")
 
 
 def lines_of_found(image, found, options, rows=RACES):

@@ -1,18 +1,20 @@
-"""A `ckrt hunt --races` made of the model, to try the comparison with; and wrong ones, which it has to find.
+"""A `ckrt hunt --races` or `--check` made of the model, to try the comparison with; and wrong ones, which it has to find.
 
 What schedule a seed draws isn't compared, so here it is that of a drive by lots, but for whom a hart gets: the planned thread, since a hunt's
-turns have no owners. The races and the cycles of locks of runs are told by tallies that take one run after the other.
+turns have no owners. What is looked for in runs is told by tallies that take one run after the other.
 """
 from dataclasses import replace
 from functools import lru_cache
 
 from cases.glances import Glance
+from model.checks import Checks
 from model.cycle_texts import all_told, cycle_text
 from model.devices import MemoryDisk
 from model.events import Place, Run
 from model.feeding import next_input, taken_by
 from model.hunts import command_of, fold, line_of_kept, lines_of_table, rows_of_outcomes, said_of, shown_of, text_of_outcome, told_of
 from model.layout import Geometry, format_disk
+from model.listing import address_text
 from model.plans import Options as Plan, next_event
 from model.races import PAIRS, Races, Readings, text_of_access, text_of_pair
 from model.session import Session
@@ -63,6 +65,11 @@ def races_of(disk):
 
 
 @lru_cache(maxsize=None)
+def checks_of(disk):
+    return Recording(bytearray(disk)).show(Checks())
+
+
+@lru_cache(maxsize=None)
 def lines_of_races(disk):
     """With what stands beneath each."""
     recording = Recording(bytearray(disk))
@@ -76,7 +83,7 @@ class Row:
 
 class Tally:
     """Takes the races of one run after the other."""
-    room, name, names = PAIRS, "race", "races"
+    room, name, names, asked = PAIRS, "race", "races", "tally"
 
     def __init__(self):
         self.rows, self.runs, self.others = {}, 0, 0
@@ -120,7 +127,7 @@ class Tally:
 
 class CycleTally(Tally):
     """Takes the cycles of locks."""
-    name, names = "lock cycle", "lock cycles"
+    name, names, asked = "lock cycle", "lock cycles", "cycle_tally"
 
     def key(self, cycle):
         return len(cycle.orders), frozenset(order.taking.place for order in cycle.orders)
@@ -132,15 +139,30 @@ class CycleTally(Tally):
         return cycle_text(cycle)
 
 
+class ErrorTally(Tally):
+    """Takes the errors of memory."""
+    name, names, asked = "error", "errors of memory", "error_tally"
+
+    def key(self, wrong):
+        done, _, place = wrong.text.partition(" pc ")
+        return done.split()[0], place, wrong.back
+
+    def found(self, checks):
+        return checks.wrongs
+
+    def text(self, wrong):
+        return f"{wrong.line()}, x1 {address_text(wrong.back)}"
+
+
 class Hunts:
     """Takes the places of `hunt` and of `glance_of_program`."""
-    tally, cycle_tally = Tally, CycleTally
+    tally, cycle_tally, error_tally = Tally, CycleTally, ErrorTally
 
     def hunt(self, ckrt, folder, seeds, options, *more):
         data = (folder / options.input).read_bytes() if options.input else None
         disks = {seed: disk_of(seed, options, (folder / "image").read_bytes(), data) for seed in seeds}
         outcomes = {seed: text_of_outcome(folded(disk), options.steps, options.ignores_output) for seed, disk in disks.items()}
-        races = self.races(disks, outcomes, options) if options.is_raced else []
+        races = self.races(disks, outcomes, options) if options.is_raced else self.errors(disks, options) if options.is_checked else []
         cycles = self.cycles(disks, options) if options.is_raced else []
         kept = self.keep(folder, more[-1], disks, outcomes) if more else []
         said = {seed: said_of(folded(disk)) for seed, disk in disks.items()}
@@ -167,6 +189,12 @@ class Hunts:
             tally.take(seed, readings_of(disk).locks.known)
         return tally.lines(options)
 
+    def errors(self, disks, options):
+        tally = self.error_tally()
+        for seed, disk in disks.items():
+            tally.take(seed, checks_of(disk))
+        return tally.lines(options)
+
     def found_in(self, disks, outcomes):
         return {seed: races_of(disk) for seed, disk in disks.items()}
 
@@ -191,7 +219,8 @@ class Hunts:
         return line_of_kept(seed, name, switches, None)
 
     def glance(self, ckrt, command, path, stretch):
-        return Glance(0, "".join(line + "\n" for line in lines_of_races(path.read_bytes())))
+        lines = checks_of(path.read_bytes()).lines() if command == "check" else lines_of_races(path.read_bytes())
+        return Glance(0, "".join(line + "\n" for line in lines))
 
 
 class Counts:
@@ -320,10 +349,10 @@ class KeepsShorter(Hunts):
 
 
 class WithoutWord(Hunts):
-    """The commands of outcomes don't ask for races."""
+    """The commands of outcomes don't ask for a look."""
 
     def told(self, options):
-        return replace(options, is_raced=False)
+        return replace(options, is_raced=False, is_checked=False)
 
 
 class RacesFirst(Hunts):
@@ -365,6 +394,25 @@ class CyclesInTurn(CycleTally):
 
     def key(self, cycle):
         return tuple(order.taking.place for order in cycle.orders)
+
+
+class WithoutBack(ErrorTally):
+    """Whatever register 1 has."""
+
+    def key(self, wrong):
+        return super().key(wrong)[:2]
+
+
+class AtOnePlace(ErrorTally):
+    """Whatever is wrong there."""
+
+    def key(self, wrong):
+        done, place, back = super().key(wrong)
+        return done, place.split()[0], back
+
+
+class LessRoomForErrors(ErrorTally):
+    room = PAIRS - 1
 
 
 class Unasked(Hunts):
@@ -411,11 +459,13 @@ def of(tally, wrong):
 
 
 def of_tally(wrong):
-    return type(wrong.__name__, (Hunts,), {"cycle_tally" if issubclass(wrong, CycleTally) else "tally": wrong})
+    return type(wrong.__name__, (Hunts,), {wrong.asked: wrong})
 
 
 OF_BOTH = [Counts, LastSeed, LastFound, ForgetsOthers, Silent]
 TALLIES = [*[of(tally, wrong) for tally in (Tally, CycleTally) for wrong in OF_BOTH], BothWays, MoreRoom, LessRoom, OthersByRaces, OwnPairsAlone, ByAddress,
            RunsWithRaces, CyclesByTheFirst, CyclesInTurn]
+WRONG_CHECKS = [*map(of_tally, [*[of(ErrorTally, wrong) for wrong in OF_BOTH], WithoutBack, AtOnePlace, LessRoomForErrors]), StatusOfOutcomes, KeepsAnother,
+                KeepsShorter, WithoutWord, RacesFirst, RacesLast, ShorterInFolders, OtherEvents]
 WRONG_HUNTS = [*map(of_tally, TALLIES), CyclesFirst, NoCycles, StatusWithoutCycles, StatusOfOutcomes, FirstRuns, SameDetector, SameClocks, KeepsAnother,
                KeepsShorter, WithoutWord, RacesFirst, RacesLast, Unasked, UnaskedStatus, OfKeptRuns, ShorterInFolders, OtherEvents]

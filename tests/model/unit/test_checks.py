@@ -162,9 +162,24 @@ class Frees(Memory):
         self.assertEqual(self.errors(*taken(), *freed(), *freed(HEAP + 8)), ["frees 2808 in a block that was given back, once"])
         self.assertEqual(self.errors(*taken(), *freed(HEAP + 8)), ["frees 2808 inside a block, once"])
         self.assertEqual(self.errors(*taken(), *freed(HEAP + 5)), ["frees 2805 inside a block, once"])
-        self.assertEqual(self.errors(*taken(), *nobodys(HEAP + 4, 8), *freed(HEAP + 8)), ["frees 2808 inside a block, once"])
         self.assertEqual(self.errors(*freed(HEAP + 20)), ["frees 2814 in no block, once"])
         self.assertEqual(self.errors(*freed(0x2000)), ["frees 2000 in no block, once"])
+
+    def test_ended(self):
+        """In a stack that has ended an address is told of that one; its begin is given back rightly."""
+        ended = [*taken(), *nobodys(HEAP + 4, 8)]
+        self.assertEqual(self.errors(*ended, *freed(HEAP + 8)), ["frees 2808 in a stack that has ended, once"])
+        self.assertEqual(self.errors(*ended, *freed(HEAP + 11)), ["frees 280b in a stack that has ended, once"])
+        self.right(*ended, *freed())
+        self.assertEqual(self.errors(*ended, *freed(HEAP + 8), *freed(), *freed(HEAP + 8)),
+                         ["frees 2808 in a stack that has ended, once", "frees 2808 in a block that was given back, once"])
+        lines = told((2, [*nobodys(), *taken(), *back(0x1104)]), (3, nobodys(HEAP + 4, 8)), (2, freed(HEAP + 8)))
+        self.assertTrue(lines[2].startswith("    ended at 5+"))
+        for reading in READINGS:
+            self.assertEqual(len(told((2, [*nobodys(), *taken(), *nobodys(HEAP + 4, 8), *freed(HEAP + 4)]), reading=reading)), 1)
+        words = [*nobodys(), *taken(), *taken(HEAP + 16), *nobodys(HEAP + 4, 8), *back(0x1104), *freed(HEAP + 8), *freed(HEAP + 24)]
+        self.assertEqual([short(line) for line in told((2, words)) if line[0] != " "],
+                         ["frees 2808 in a stack that has ended, once", "frees 2818 inside a block, once"])
 
     def test_nothing_changes(self):
         """By a free that is wrong."""
@@ -176,6 +191,19 @@ class Frees(Memory):
                  for at in (HEAP + 12, HEAP)]
         self.assertEqual(found, [["frees 280c in no block, once", "frees 280c inside a block, once"],
                                  ["frees 2800 inside a block, once", "frees 2800 in no block, once"]])
+
+    def test_open_of_ended(self):
+        """The same in its first word, right after its last one, and where a part of a block is nobody's."""
+        found = [[short(told((2, [*nobodys(), *taken(), *nobodys(HEAP + 4, length), *freed(at)]), reading=(reading,))[0]) for reading in (False, True)]
+                 for length, at in ((8, HEAP + 5), (8, HEAP + 12), (4, HEAP + 8))]
+        self.assertEqual(found, [["frees 2805 in a stack that has ended, once", "frees 2805 inside a block, once"],
+                                 ["frees 280c in no block, once", "frees 280c in a stack that has ended, once"],
+                                 ["frees 2808 inside a block, once", "frees 2808 in a stack that has ended, once"]])
+
+    def test_open_of_word_before(self):
+        """A block of which the heap's own word is nobody's too, as where a whole heap is told to be so: by that word it is in a stack that has ended."""
+        found = [told((2, [*nobodys(), *taken(), *nobodys(HEAP, 12), *freed()]), reading=(reading,))[0] for reading in (False, True)]
+        self.assertEqual([found[0][:9], short(found[1])], ["no errors", "frees 2804 in a stack that has ended, once"])
 
     def test_apart(self):
         """Whether memory that isn't the heap's counts as the heap's own."""
@@ -325,7 +353,7 @@ class Varieties(WithKeys):
     def test_cases(self):
         """They come to each kind of line, and readings differ now and then."""
         kinds, differ = set(), 0
-        for seed in range(1, 13):
+        for seed in range(4, 84, 4):
             case = case_of("checks", seed)
             recording, _ = recorded(case.contents)
             lines = [recording.show(Checks(case.rows, *reading)).lines() for reading in READINGS]
@@ -333,6 +361,6 @@ class Varieties(WithKeys):
             differ += any(other != lines[0] for other in lines)
         wrong = [f"{use} {fault}" for use in ("loads", "stores") for fault in
                  ("in no block", "beside a block", "in a block that was given back", "in a stack that has ended")]
-        frees = [f"frees {fault}" for fault in ("in no block", "inside a block", "in a block that was given back")]
+        frees = [f"frees {fault}" for fault in ("in no block", "inside a block", "in a block that was given back", "in a stack that has ended")]
         self.assertEqual({*wrong, *frees, "called", "in a block", "given back", "ended", "never"} - kinds, set())
         self.assertLess(0, differ)

@@ -211,6 +211,7 @@ class Tables(unittest.TestCase):
         self.assertEqual(lines_of_table("a.bin", {8: "deadlock"}, Options(16, 2, 99, "b.txt", is_raced=True))[1],
                          "    ckrt hunt a.bin --seeds 8-8 --pages 16 --harts 2 --steps 99 --input b.txt --races --keep seed-8.disk")
         self.assertEqual(Options(16, 2, 99, is_raced=True).words(), "--pages 16 --harts 2 --steps 99 --races")
+        self.assertEqual(Options(16, 2, 99, ignores_output=True, is_checked=True).words(), "--pages 16 --harts 2 --steps 99 --check --ignore-output")
 
     def test_outputs_ignored(self):
         """Behind the word for races; outcomes have their status alone, and `exit 0` is the last one."""

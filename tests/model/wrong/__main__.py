@@ -27,11 +27,11 @@ FIRST = {
     **dict.fromkeys(["columns", "crowded"], "columns"), **dict.fromkeys(["stories", "lived"], "stories"), "timed": "timed",
     **dict.fromkeys(["mistyped", "mistakes"], "mistyped"), "words": "words", "glances": "races",
     **dict.fromkeys(["lock_orders", "lock_steps", "cycle_texts", "lockers"], "cycles"), **dict.fromkeys(["beneath", "callers"], "beneath"),
-    **dict.fromkeys(["heap", "checks"], "checks"), "many": "many", "images": "images", "schedules": "schedules",
+    **dict.fromkeys(["heap", "checks"], "checks"), "checked": "checked", **dict.fromkeys(["bits", "values", "heaped"], "values"), "many": "many", "images": "images", "schedules": "schedules",
     **dict.fromkeys(["layout", "listing", "switches", "formats"], "programs"),
 }
-TESTS = ["plans", "schedules", "rounds", "feeding", "calls", "call_lines", "races", "timelines", "hunts", "stubs", "mistyped", "begun", "motions", "profiles",
-         "columns", "programs", "beneath", "cycles", "checks", "many", "images", "stories", "timed", "raced", "keys", "words", "long_runs", "listings", "rows", "tables", "texts", "fates", "lives", "stops"]
+TESTS = ["plans", "schedules", "rounds", "feeding", "checked", "calls", "call_lines", "races", "timelines", "hunts", "stubs", "mistyped", "begun", "motions", "profiles",
+         "columns", "programs", "beneath", "cycles", "checks", "values", "many", "images", "stories", "timed", "raced", "keys", "words", "long_runs", "listings", "rows", "tables", "texts", "fates", "lives", "stops"]
 
 
 def fails(folder, test):

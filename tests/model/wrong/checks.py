@@ -1,6 +1,7 @@
 """Wrong models of what a kit tells of its heap, of what is an error of memory, and of the lines of `ckrt check`."""
 GIVES = "        self.words.update((word, Told(State.GIVEN, block)) for word in block.words)\n"
 IS_RIGHT = "told.block.begin <= access.address and access.address + length <= told.block.end"
+FREED = 'return "in a stack that has ended" if told.state is State.ENDED else "inside a block"'
 LOCKED = "if found and not (HEAP_LOCK in machine.mutexes and machine.mutexes[HEAP_LOCK].owner == thread_id):"
 
 WRONG = {
@@ -39,9 +40,14 @@ WRONG = {
         ("address - 4 if self.is_by_word_before else address", "address"),
         ("address - 4 if self.is_by_word_before else address", "address - 4"),
         ("        if told.state is State.GIVEN_BACK:\n            return \"in a block that was given back\"\n", ""),
-        ("None if address == told.block.begin else", "None if address >= told.block.begin else"),
-        ("None if address == told.block.begin else", "None if address - address % 4 == told.block.begin else"),
-        ("None if address == told.block.begin else", "None if address < told.block.end else"),
+        ("if address == told.block.begin:", "if address >= told.block.begin:"),
+        ("if address == told.block.begin:", "if address - address % 4 == told.block.begin:"),
+        ("if address == told.block.begin:", "if address < told.block.end:"),
+        ("if address == told.block.begin:", "if address == told.block.begin and told.state is not State.ENDED:"),
+        (FREED, "return \"inside a block\""),
+        (FREED, "return \"in a stack that has ended\""),
+        (FREED, "return \"in a stack that has ended\" if told.state is State.GIVEN else \"inside a block\""),
+        (FREED, "return \"in a block that was given back\" if told.state is State.ENDED else \"inside a block\""),
         ('"inside a block"', '"beside a block"'),
         ("        block.is_there = False\n", ""),
         ("self.words.update((word, Told(State.GIVEN_BACK, block, moment))", "self.words.update((word, Told(State.NOBODYS))"),
@@ -53,6 +59,7 @@ WRONG = {
         ("length = 1 if access.length == 4 and not access.is_store else access.length", "length = 1"),
         ("length = 1 if access.length == 4 and not access.is_store else access.length", "length = 1 if access.length == 4 else access.length"),
         ("length = 1 if access.length == 4 and not access.is_store else access.length", "length = 1 if not access.is_store else access.length"),
+        ("if self.is_by_word_before and told.state is State.ENDED:", "if False:"),
         (IS_RIGHT, "True"),
         (IS_RIGHT, "access.address + length <= told.block.end"),
         (IS_RIGHT, "told.block.begin <= access.address"),
@@ -96,6 +103,7 @@ WRONG = {
         ("is_unknown = told.state is State.UNTOLD and", "is_unknown ="),
         ("max(back - 4, 0)", "back"),
         ("max(back - 4, 0)", "back - 4 & 0xFFFFFFFF"),
+        ("lines_of_told(told), back)", "lines_of_told(told), place)"),
         ("key = what.split()[0], fault,", "key = what, fault,"),
         ("key = what.split()[0], fault,", "key = fault,"),
         ("key = what.split()[0], fault,", "key = what.split()[0],"),
