@@ -1,0 +1,12 @@
+pub mod Layout
+pub mod Front
+pub mod Segments
+pub mod Content
+pub mod Opened
+pub mod States
+pub mod Kept
+pub mod Nearest
+pub mod Appending
+pub mod Together
+pub mod Growing
+pub mod Reads
