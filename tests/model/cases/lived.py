@@ -14,7 +14,7 @@ from cases.streams import malformed_line
 from model.assembler import Jump, image_of
 from model.listing import lines_of_state
 from model.mistyped import HELP, LIST, kinds_of_mistakes, text_of_packet, with_lists
-from model.motions import Stops, backward, onward, text_of_stop, thread_of_stop
+from model.motions import Stops, backward, before_end, onward, text_of_stop, thread_of_stop, who_ended
 from model.stories import Story, TooLong
 from model.stubs import answers_in, answers_of_thread, frame, is_answered, live_threads, memory_text, monitor, position_text, registers_text, told_threads
 
@@ -152,7 +152,8 @@ class Script:
         steps, motion = story.steps(), self.chance.choice(list(MOTIONS))
         ends = (story.first, 0), (story.last, 0)
         story.position, answer = MOTIONS[motion](steps, self.stops, story.position, ends[motion == "vCont;c"])
-        answer = told_at(answer, story.named_at(story.position))
+        before = before_end(answer, who_ended(story.end, steps), story.named)
+        answer = told_at(answer, story.named_at(story.position, before))
         story.named = thread_of_stop(answer)
         self.stopped = "", answer
         self.ask(motion, self.stopped)

@@ -7,9 +7,9 @@ from cases.glances import recording_of
 from cases.histories import recorded_disk
 from cases.mistakes import drawn_mistake
 from model.mistyped import HELP, LIST, answer_to, kinds_of_mistakes, text_of_packet, with_lists
-from model.motions import ACCESSES, BEGIN, CHANGES, END, LOADS, Steps, Stops, backward, named, next_step, onward, text_of_stop, thread_of_stop, threads_at
+from model.motions import (ACCESSES, BEGIN, CHANGES, END, LOADS, Steps, Stops, backward, before_end, named, next_step, onward,
+                           text_of_stop, thread_of_stop, threads_at, who_ended)
 from model.stubs import answers_in, frame, is_answered, line_of_events, monitor, position_text, shown_at_first
-from model.threads import Status
 
 MOTIONS = {"vCont;c": onward, "bc": backward}
 
@@ -42,10 +42,10 @@ def steps_of(recording):
 
 
 def ender_of(recording):
-    """The thread that ended the program, by the last step; None where it hasn't ended."""
+    """The thread that ended the program; None where it hasn't ended."""
     looker = Steps()
     machine = recording.made_up_to(looker)
-    return None if machine.status is Status.RUNNING or not looker.steps else looker.steps[-1].thread
+    return who_ended(machine, looker.steps)
 
 
 def moved_case(chance, case):
@@ -91,11 +91,6 @@ def named_at(steps, place, before):
     """Whom a stop at a place names, where the one before it named a thread."""
     step = next_step(steps, place)
     return named(step and step.thread, threads_at(steps, place), before)
-
-
-def before_end(answer, ender, before):
-    """Whom a stop names where nobody's step is next: after the end of a program the thread that ended it."""
-    return ender if answer == END and ender is not None else before
 
 
 def told_at(answer, thread):

@@ -7,10 +7,10 @@ from cases.debugged import TIME_LIMIT
 from cases.glances import recording_of
 from cases.histories import recorded_disk
 from cases.mistakes import drawn_mistake, spelled
-from cases.moved import before_end, drawn_watch, ender_of, place_at_first, steps_of, told_at, words_at_first
+from cases.moved import drawn_watch, ender_of, place_at_first, steps_of, told_at, words_at_first
 from model.mistyped import HELP, LIST, kinds_of_mistakes, text_of_packet, with_lists
-from model.motions import (CHANGE, Stops, backward, end_of_steps, named, next_step, onward, own_step, stepped, stepped_back, text_of_stop,
-                           thread_of_stop, threads_at)
+from model.motions import (CHANGE, Stops, backward, before_end, end_of_steps, named, next_step, onward, own_step, stepped, stepped_back,
+                           text_of_stop, thread_of_stop, threads_at)
 from model.stubs import answers_in, frame, is_answered, line_of_events, monitor, position_text
 
 LIMITS = [1, 1, 3, 20, 100, 4_294_967_295]

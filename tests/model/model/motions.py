@@ -91,6 +91,18 @@ def named(running, there, before):
     return running or named_instead(there, before)
 
 
+def who_ended(machine, steps):
+    """Who ended a program: the thread of its fault, or the one of the last step; None where it hasn't ended, or where no step is known."""
+    if machine.status is Status.FAULTED:
+        return machine.fault_thread
+    return steps[-1].thread if steps and machine.status is not Status.RUNNING else None
+
+
+def before_end(answer, ender, before):
+    """Whom a stop names where nobody's step is next: after the end of a program the thread that ended it."""
+    return ender if answer == END and ender is not None else before
+
+
 def named_instead(there, thread):
     """In place of one that has ended stands the first."""
     return thread if thread in there else min(there, default=1)

@@ -110,13 +110,13 @@ class Story:
         told = f", recorded to {self.recorded}" if self.recorded < self.last else ""
         return f"event {position_text(self.position)}, from {self.first} to {self.last}{told}\n"
 
-    def named_at(self, position):
-        """Whom a stop there names."""
+    def named_at(self, position, before):
+        """Whom a stop there names, where nobody's step is next the one before."""
         machine = self.machine_at(position)
-        return named(next_thread(machine, self.events[position[0] - self.first:]), live_threads(machine), self.named)
+        return named(next_thread(machine, self.events[position[0] - self.first:]), live_threads(machine), before)
 
     def stop(self):
-        self.named = self.named_at(self.position)
+        self.named = self.named_at(self.position, self.named)
 
     def goto(self, position):
         if self.has(position):

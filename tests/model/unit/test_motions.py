@@ -1,6 +1,7 @@
 """Motions of a debugging session over small runs by hand."""
 import unittest
 from random import Random
+from types import SimpleNamespace
 from unittest.mock import patch
 
 from cases.moved import MovedCase, ender_of, expected_motions, moved_case, packets_of, place_at_first, steps_of, told_at, words_at_first
@@ -10,11 +11,12 @@ from model.assembler import STOP, image_of
 from model.devices import MemoryDisk
 from model.layout import format_disk
 from model.lines import serve_disk
-from model.motions import (BEGIN, END, Stops, backward, end_of_steps, named, named_instead, next_step, onward, own_step, stepped, stepped_back,
-                           text_of_stop, thread_of_stop, threads_at)
+from model.motions import (BEGIN, END, Stops, backward, end_of_steps, named, named_instead, next_step, onward, own_step, stepped,
+                           stepped_back, text_of_stop, thread_of_stop, threads_at, who_ended)
 from model.stretches import Recording
 from model.stubs import monitor
 from model.switches import switched
+from model.threads import Status
 from unit.test_begun import of_two_areas
 from unit.test_call_lines import LED, TwoAreas
 from unit.test_races import call, load, recording_of, store
@@ -207,13 +209,20 @@ class Motions(unittest.TestCase):
 
     def test_ender(self):
         """After the end of a program a motion on names the thread that ended it; where it goes on, the one of the stop before."""
-        for last, ender in ((Call.EXIT, 2), (Call.SELF, None)):
+        for last, by in ((Call.EXIT, 2), (Call.SELF, None)):
             recording = recording_of([(2, call(last, 0))], threads=1)
             expected = expected_motions(MovedCase(b"", Stops([], []), [(None, ["vCont;c", "bc", "vCont;c"])]), recording)
             self.assertEqual((ender_of(recording), [answer for _, answer in expected[1:6:2]]),
-                             (ender, [f"T05replaylog:end;thread:{ender or 1};", "T05replaylog:begin;thread:1;", f"T05replaylog:end;thread:{ender or 1};"]))
+                             (by, [f"T05replaylog:end;thread:{by or 1};", "T05replaylog:begin;thread:1;", f"T05replaylog:end;thread:{by or 1};"]))
             way = Way(Random(1), recording, steps_of(recording), Stops([], []))
-            self.assertEqual(way.motion("step", 9)[1], f"T05replaylog:end;thread:{ender or 1};")
+            self.assertEqual(way.motion("step", 9)[1], f"T05replaylog:end;thread:{by or 1};")
+
+    def test_ender_of_a_fault(self):
+        """It is the thread of the fault, also where its step isn't recorded. Without a step nobody is known to have made the program exit."""
+        steps = [SimpleNamespace(thread=3)]
+        for status, known, wanted in [(Status.FAULTED, [], 8), (Status.FAULTED, steps, 8), (Status.EXITED, [], None), (Status.EXITED, steps, 3),
+                                      (Status.RUNNING, steps, None)]:
+            self.assertEqual(who_ended(SimpleNamespace(status=status, fault_thread=8), known), wanted)
 
     def test_limits(self):
         """Of events with 3, 0, 2 and 5 steps from event 1 on; one without steps counts for one."""

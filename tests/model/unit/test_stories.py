@@ -271,7 +271,7 @@ class Named(WithKeys):
     def test_not_there(self):
         """Before it is made, thread 2 isn't there: the first one is."""
         self.assertEqual(self.named((3, 1), (0, 0)), 1)
-        self.assertEqual(story_of([STOP], "place 0 1").named_at((0, 0)), 1)
+        self.assertEqual(story_of([STOP], "place 0 1").named_at((0, 0), 2), 1)
 
     def test_behind_a_checkpoint(self):
         """Which saved an event that no journal has: the history begins there."""
@@ -385,6 +385,14 @@ class Scripts(WithKeys):
         self.moves("vCont;c")
         self.assertEqual(self.script.asked[-2:], [("vCont;c", ("", "T05replaylog:end;thread:2;")),
                                                   (monitor("events"), ("event 6, from 0 to 6\n", "OK"))])
+
+    def test_ender(self):
+        """After the end of a program a motion on names the thread that ended it."""
+        self.script = Script(Random(1), Story(recording_of([(2, call(Call.EXIT, 0))], threads=1)))
+        self.script.go((0, 0))
+        self.assertEqual(self.script.asked[-2], ("?", ("", "T05thread:1;")))
+        self.moves("vCont;c")
+        self.assertEqual(self.script.asked[-2], ("vCont;c", ("", "T05replaylog:end;thread:2;")))
 
     def test_answers(self):
         case = LivedCase(b"", [], [("?", ("", "T05thread:2;")), ("bc", ("", "T05replaylog:begin;thread:9;")), ("g", ("", "00"))])

@@ -2,6 +2,10 @@
 
 WRONG = {
     "model/motions.py": [
+        ("    if machine.status is Status.FAULTED:\n        return machine.fault_thread\n", ""),
+        ("steps[-1].thread if steps and machine.status is not Status.RUNNING else None", "steps[-1].thread if steps else None"),
+        ("return ender if answer == END and ender is not None else before", "return ender if ender is not None else before"),
+        ("return ender if answer == END and ender is not None else before", "return before"),
         ("        if step.before < place:\n            continue\n        told =", "        if step.before <= place:\n            continue\n        told ="),
         ("(stops.at_place(step) if step.before > place else None)", "stops.at_place(step)"),
         ("(None if is_own or step.before == place else stops.at_place(step)) or stops.at_change(step)", "(None if is_own or step.before == place else stops.at_place(step)) or (None if is_own else stops.at_change(step))"),
@@ -140,7 +144,7 @@ WRONG = {
         ("        if reason != NOT_AT_END:\n            self.stop()\n", "        if reason in (None, ENDED, *ENDS.values()):\n            self.stop()\n"),
         ("made = (self.last, 0), made + 1\n", "made = (self.last, 0), made + 1\n                self.stop()\n"),
         ("self.events[position[0] - self.first:])", "self.events[position[0]:])"),
-        ("live_threads(machine), self.named)", "live_threads(machine), None)"),
+        ("live_threads(machine), before)", "live_threads(machine), None)"),
         ("(self.first if at is None else at), 0", "(recording.checkpoint if at is None else at), 0"),
         ("(self.first if at is None else at), 0", "self.first, 0"),
         ("shown_at_first(self.begin) if at is None else shown_at_first(self.machine_at(self.position), self.events[at - self.first:])", "None"),
@@ -154,7 +158,8 @@ WRONG = {
         ("NOWHERE + story.place_text())", "NOWHERE)"),
         ("if not is_answered(wanted, there):", "if wanted[1] != there[1]:"),
         ("if not is_answered(wanted, there):", "if wanted[0] != there[0]:"),
-        ("        answer = told_at(answer, story.named_at(story.position))\n", ""),
+        ("        answer = told_at(answer, story.named_at(story.position, before))\n", ""),
+        ("before_end(answer, who_ended(story.end, steps), story.named)", "story.named"),
         ("        self.why(self.story.last > before)\n", "        self.why()\n"),
         ("        self.why(is_stop)\n", "        self.why()\n"),
         ("        self.why(is_stop)\n", "        self.why(\"events made: 0\" not in self.asked[-1][1][0])\n"),
