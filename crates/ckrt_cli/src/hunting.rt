@@ -262,7 +262,7 @@ fn hunt_image<'a, I: Read, D: Disk, S: Sources<'a, I, D>, W: Write, O: HuntOnloo
 /// with `/`, the first run of each outcome is, on a disk of its own. Each is kept by the shortest schedule that is found, and written is
 /// its disk too, and how many switches it has. Of a folder the first run that isn't kept is named as well.
 ///
-/// Where the words ask for races or for errors of memory, each run is looked at for them, and those that some run had are written behind
+/// Where the words ask for races or for errors of memory, each run is looked at for them, and those that some run had are written after
 /// the table. Then a run is kept as it was drawn, since a shorter schedule may have others, and where a run had one, that is told as
 /// several outcomes are.
 ///

@@ -13,7 +13,6 @@ pub mod CalmLemmas
 pub mod SnapshotLemmas
 pub mod KeptLemmas
 pub mod PageLemmas
-pub mod CopyLemmas
 pub mod PoolLemmas
 pub mod ForkLemmas
 pub mod ExtendLemmas

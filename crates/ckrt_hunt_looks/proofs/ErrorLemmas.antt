@@ -12,7 +12,8 @@ use Rattle.ckrt_look_heap.specs.declared.finding.Finding.{Finding}
 use Rattle.ckrt_look_heap.specs.declared.shadow.Note.{Note}
 use Rattle.ckrt_look_heap.specs.declared.shadow.Note.TheVariants as note
 use Rattle.ckrt_look_heap.specs.Parts.{Room, split, split_at, split_for, taking}
-use Rattle.ckrt_look_heap.specs.Recorded.{FillsRoom, fresh_for, slots_in, words_of}
+use Rattle.ckrt_look_steps.specs.Rooms.{slots_in, words_of}
+use Rattle.ckrt_look_heap.specs.Recorded.{FillsRoom, fresh_for}
 use Rattle.ckrt_look_heap.specs.Shadow.{Found, Heap, behind, ended, few, freed_as, given_back, head_of, if_told, is_begin, part_of, used_as, with_error, wrong}
 use Rattle.ckrt_look_heap.specs.Steps.{has_ended, of_event, of_events}
 use Rattle.ckrt_look_heap.specs.Within.{Noted, fresh_within, is_full, noted_all, noted_one, noted_with, room_by, room_by_free, room_for}
@@ -135,7 +136,7 @@ counts room es s d seed old new left counted is =
     let found : d.heap.found ≡ errors_by es s =
     ap (λ (v : Noted). v.heap.found) is ∙ sym (end_found (has_ended (fold es s).state.tables.status) (noted_by error_look 0 es s (fresh_for room 0 s)))
     ∙ ap (λ (v : Noted). v.heap.found) (sym (noted_end 0 es s (fresh_for room 0 s)))
-    ∙ ap (λ (h : Heap). h.found) (nothing_left_out (0 == 0) (words_of s) (slots_in room (words_of s)) (of_events 0 es s) (full_is room es s d is ∙ left)) in
+    ∙ ap (λ (h : Heap). h.found) (nothing_left_out (0 == 0) (words_of s) (slots_in room 57344 (words_of s)) (of_events 0 es s) (full_is room es s d is ∙ left)) in
     counted ∙ ap (λ (f : Found). with_run error_kind seed f.rows f.others (rows_in old)) found
 
 -- or they fill the room
@@ -148,6 +149,6 @@ forgotten room es s d new cleared is =
     let f = fresh_for room 0 s in
     let whole : d.heap.is_whole ≡ (0 == 0) = ap (λ (v : Noted). v.heap.is_whole) is ∙ run_keeps (λ (v : Noted). v.heap.is_whole) whole_one 0 es s f in
     let words : length d.heap.cells ≡ words_of s = ap (λ (v : Noted). length v.heap.cells) is ∙ run_keeps (λ (v : Noted). length v.heap.cells) words_one 0 es s f ∙ length-replicate (words_of s) cell.Unknown in
-    let slots : d.room.count ≡ slots_in room (words_of s) = ap (λ (v : Noted). v.room.count) is ∙ run_keeps (λ (v : Noted). v.room.count) slots_one 0 es s f in
+    let slots : d.room.count ≡ slots_in room 57344 (words_of s) = ap (λ (v : Noted). v.room.count) is ∙ run_keeps (λ (v : Noted). v.room.count) slots_one 0 es s f in
     cleared ∙ ap (λ w. fresh_within w (length d.heap.cells) d.room.count) whole ∙ ap (λ n. fresh_within (0 == 0) n d.room.count) words
     ∙ ap (λ n. fresh_within (0 == 0) (words_of s) n) slots

@@ -15,7 +15,8 @@ use Rattle.ckrt_look_clocks.specs.Within.{Detected, fresh_within, is_full, noted
 use Rattle.ckrt_look_clocks.proofs.SufficeLemmas.{behind_size}
 use Rattle.ckrt_look_clocks.proofs.WithinLemmas.{nothing_left_out, noted_full, noted_open, within_none, within_some}
 use Rattle.ckrt_look_races.specs.Holders.{HOLDERS}
-use Rattle.ckrt_look_races.specs.Recorded.{FillsRoom, fresh_for, slots_in, words_of}
+use Rattle.ckrt_look_steps.specs.Rooms.{slots_in, words_of}
+use Rattle.ckrt_look_races.specs.Recorded.{FillsRoom, fresh_for}
 use Rattle.ckrt_look_races.specs.Steps.{of_event, of_events}
 use Rattle.ckrt_look_races.proofs.BehindLemmas.{behind_both}
 use Rattle.ckrt_hunt_looks.specs.Looks.{IsBehind, noted_by}
@@ -107,7 +108,7 @@ pub counts : (room : ℕ) (es : List Event) (s : State) (d : Detected) (seed : �
 counts room es s d seed old new left counted is =
     let all : d ≡ noted_all (of_events 0 es s) (fresh_for room s) = seen room es s d is in
     let whole : d.watched ≡ behind_all (of_events 0 es s) (fresh HOLDERS (words_of s)) =
-    ap (λ (v : Detected). v.watched) all ∙ nothing_left_out HOLDERS (words_of s) (slots_in room (words_of s)) (of_events 0 es s) (sym (ap is_full all) ∙ left) in
+    ap (λ (v : Detected). v.watched) all ∙ nothing_left_out HOLDERS (words_of s) (slots_in room 286720 (words_of s)) (of_events 0 es s) (sym (ap is_full all) ∙ left) in
     counted ∙ ap (λ (w : Watched). with_races seed w.found w.orders (races_in old)) whole
 
 -- or they fill the room
@@ -120,6 +121,6 @@ forgotten room es s d new cleared is =
     let all : d ≡ noted_all (of_events 0 es s) (fresh_for room s) = seen room es s d is in
     let holders : length d.watched.clocks ≡ HOLDERS = ap (λ (v : Detected). length v.watched.clocks) all ∙ same_holders (of_events 0 es s) (fresh_for room s) ∙ length-replicate HOLDERS no_clock in
     let words : length d.watched.shadow ≡ words_of s = ap (λ (v : Detected). length v.watched.shadow) all ∙ same_words (of_events 0 es s) (fresh_for room s) ∙ length-replicate (words_of s) no_accesses in
-    let slots : d.slots.count ≡ slots_in room (words_of s) = ap (λ (v : Detected). v.slots.count) all ∙ same_slots (of_events 0 es s) (fresh_for room s) in
+    let slots : d.slots.count ≡ slots_in room 286720 (words_of s) = ap (λ (v : Detected). v.slots.count) all ∙ same_slots (of_events 0 es s) (fresh_for room s) in
     cleared ∙ ap (λ n. fresh_within n (length d.watched.shadow) d.slots.count) holders ∙ ap (λ n. fresh_within HOLDERS n d.slots.count) words
     ∙ ap (λ n. fresh_within HOLDERS (words_of s) n) slots

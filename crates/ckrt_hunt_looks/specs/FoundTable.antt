@@ -1,4 +1,4 @@
--- What looks found in the runs of a hunt (this project's own format), behind the lines of its outcomes: for each place a line that says how many runs
+-- What looks found in the runs of a hunt (this project's own format), after the lines of its outcomes: for each place a line that says how many runs
 -- had it, by which seed first, and what that one's run had, and a line with the command that repeats it. It has the number of its row, from 1 on.
 --
 --     race 1: 12 of 200 runs, first by seed 3: 5+91 thread 3 stores 00006224 pc 00001038, 7+7 thread 2 stores 00006224 pc 000010c8

@@ -45,7 +45,7 @@ FillsAsked look.Outcomes room h seeds = ⊥
 FillsAsked look.Races room h seeds = FillsSome race_look room h seeds
 FillsAsked look.Errors room h seeds = FillsSome error_look room h seeds
 
--- WHAT IS TOLD of the seeds that were run: the outcomes, and what was found behind them
+-- WHAT IS TOLD of the seeds that were run: the outcomes, and what was found after them
 abbrev pub text_behind : Asked → HuntFound → List ℕ
 text_behind a found.Nothing = []
 text_behind a (found.Races t) = races_text a t

@@ -25,7 +25,7 @@ abbrev pub SeedRun : Hunted → (seed : ℕ) → Type 0
 SeedRun h seed = WholeRun (plan_in h seed) h.start
 
 -- A LOOK: what it has noted is an L, and what is counted of runs a T. At first it has noted nothing of a program that begins with a state, in a room of
--- so many bytes. It says what it notes of the event behind the first k, what is counted of the run of a seed by its events, and which fill the room
+-- so many bytes. It says what it notes of the event after the first k, what is counted of the run of a seed by its events, and which fill the room
 pub record Looking (L T : Type 0) : Type 1 where
   pub fresh : (room : ℕ) → State → L
   pub noted : (k : ℕ) → Event → State → L → L
@@ -33,7 +33,7 @@ pub record Looking (L T : Type 0) : Type 1 where
   pub Counts : (seed : ℕ) → List Event → State → (old new : T) → Type 0
   pub Fills : (room : ℕ) → List Event → State → Type 0
 
--- what it has noted with these events, of which the first is behind n others
+-- what it has noted with these events, of which the first comes after n others
 abbrev pub noted_by : {L T : Type 0} → Looking L T → (n : ℕ) → List Event → State → L → L
 noted_by k n [] s l = l
 noted_by k n (e ∷ es) s l = noted_by k (n + 1) es (step e s).state (k.noted n e s l)

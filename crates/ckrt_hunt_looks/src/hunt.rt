@@ -106,7 +106,7 @@ impl<'i, L: RunLook> LookHunt<'i, L> {
     }
 
     /// Notes what the seeds of a range come to, in turn, and looks at their runs. An onlooker is told of each but the last one. Where
-    /// the hunt may end early, it ends behind the first seed after which the onlooker has no time. The answer is the range that was
+    /// the hunt may end early, it ends with the first seed after which the onlooker has no time. The answer is the range that was
     /// noted; nothing where a run fills the room of the look. It takes no memory, and the hunt is as it was.
     pub fn note_seeds<O: HuntOnlooker>(
         &mut self,

@@ -1,4 +1,4 @@
-//! What looks found in a hunt's runs, as lines behind its table.
+//! What looks found in a hunt's runs, as lines after its table.
 ghost use Rattle.std.specs.Prelude.{◌≡◌, ◌+◌, ◌++◌, ◌∷◌, [], codes, decimal, length, OnOk};
 ghost use Rattle.std.specs.Io.KnownBytes.{Appends};
 ghost use Rattle.ckrt_hunt_looks.specs.FoundTable.{errors_text, found_text, head_text, known_others_line, none_line, others_line, races_text, row_text, rows_text, some_text};

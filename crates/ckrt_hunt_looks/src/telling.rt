@@ -238,7 +238,7 @@ fn write_behind<W: Write>(out: &mut W, asked: &Asked<'_>, found: &HuntFound) -> 
     }
 }
 
-/// Writes what a hunt came to: the table of its outcomes, and what was found behind it.
+/// Writes what a hunt came to: the table of its outcomes, and what was found after it.
 #[tactic(auto, using(ckrt_hunt_schedules::proofs::AppendLemmas::appends_both))]
 fn write_told<W: Write>(out: &mut W, asked: &Asked<'_>, told: &HuntTold) -> io::Result<()>
     ensures { OnOk result
@@ -313,8 +313,8 @@ fn hunt_and_tell_closer<O: HuntOnlooker, W: Write>(
 }
 
 /// Hunts a program that begins with this image, and is given this to read: runs each seed of the range in turn, and writes the table of
-/// what they came to. Where races or errors of memory are asked for, each run is looked at for them too, and they are written behind the
-/// table. Where the hunt may end early, an onlooker says behind which seed it does, and what is told is that of the seeds up to it. All
+/// what they came to. Where races or errors of memory are asked for, each run is looked at for them too, and they are written after the
+/// table. Where the hunt may end early, an onlooker says after which seed it does, and what is told is that of the seeds up to it. All
 /// room is taken before the first run.
 ///
 /// # Errors

@@ -17,7 +17,7 @@ use Rattle.ckrt_inspect.specs.Inspect.{is_device, of_recovery}
 use Rattle.ckrt_inspect.specs.declared.fault.InspectFault.{InspectFault}
 use Rattle.ckrt_inspect.specs.declared.fault.InspectFault.TheVariants.{NotFormatted, Version, Damaged, Device, OutOfMemory, ShadowFull, Write, Range}
 use Rattle.ckrt_look_calls.specs.declared.stretch.Stretch.{Stretch}
-use Rattle.ckrt_look_calls.specs.Stretches.{Account, IsEventsFault, IsFaultOf, IsReachFault, IsReached, IsWithin, RecordsTo, TellsStretch, Writes, before_of, events_of, begin_in, begin_of, from_of, last_of, lately, state_of, to_of}
+use Rattle.ckrt_look_calls.specs.Stretches.{Account, IsEventsFault, IsFaultOf, IsReachFault, IsReached, IsTellFault, IsWithin, RecordsTo, TellsRecording, TellsStretch, Writes, before_of, events_of, begin_in, begin_of, from_of, last_of, lately, state_of, to_of}
 use Rattle.ckrt_look_calls.proofs.AppendLemmas.{appends_kept}
 
 -- WHERE IT BEGINS
@@ -77,33 +77,40 @@ accepted_in s r all =
     let from = begin_in s r - r.first in
     accepted_first (to_of s (last_of r) - begin_in s r) (drop from r.events) (state_of s r) (accepted_behind from r.events r.start all)
 
--- a fault of going to the stretch is one of the image
-pub fault_of_reaching : (a : Account) (s : Stretch) (image : List ℕ) (r : Recorded) (f : InspectFault) → RecordsTo s.to image (Ok r) → IsReachFault s r f → IsFaultOf a s image f
-fault_of_reaching a s image r Range has fault = record { recorded = r; has = recorded_to s.to image r has fault.1; outside = fault.0 }
-fault_of_reaching a s image r Damaged has refused = damaged_to s.to image r has refused
-fault_of_reaching a s image r NotFormatted has fault = absurd fault
-fault_of_reaching a s image r Version has fault = absurd fault
-fault_of_reaching a s image r Device has fault = absurd fault
-fault_of_reaching a s image r OutOfMemory has fault = absurd fault
-fault_of_reaching a s image r Write has fault = absurd fault
-fault_of_reaching a s image r ShadowFull has fault = absurd fault
+-- a fault of going to the stretch is one of telling it
+pub fault_of_reaching : (a : Account) (s : Stretch) (r : Recorded) (f : InspectFault) → IsReachFault s r f → IsTellFault a s r f
+fault_of_reaching a s r Range fault = fault
+fault_of_reaching a s r Damaged refused = refused
+fault_of_reaching a s r NotFormatted fault = absurd fault
+fault_of_reaching a s r Version fault = absurd fault
+fault_of_reaching a s r Device fault = absurd fault
+fault_of_reaching a s r OutOfMemory fault = absurd fault
+fault_of_reaching a s r Write fault = absurd fault
+fault_of_reaching a s r ShadowFull fault = absurd fault
 
 -- one of its events is, too
-fault_of_events : (a : Account) (s : Stretch) (image : List ℕ) (r : Recorded) (k : ℕ) (es : List Event) (z : State) (f : InspectFault) → RecordsTo s.to image (Ok r) → IsReached s r k es z → IsEventsFault (a.Fills k es z) es z f → IsFaultOf a s image f
-fault_of_events a s image r k es z Damaged has is refused =
-    damaged_to s.to image r has (λ all. refused (subst (λ (y : State). AllAccepted es y) (sym is.state) (subst (λ (l : List Event). AllAccepted l (state_of s r)) (sym is.events) (accepted_in s r all))))
-fault_of_events a s image r k es z ShadowFull has is fills = record {
-  recorded = r;
-  has = has;
-  within = is.within;
-  fills = subst (λ n. a.Fills n (events_of s r) (state_of s r)) is.first (subst (λ (l : List Event). a.Fills k l (state_of s r)) is.events (subst (λ (y : State). a.Fills k es y) is.state fills));
-}
-fault_of_events a s image r k es z OutOfMemory has is fault = tt
-fault_of_events a s image r k es z Write has is fault = tt
-fault_of_events a s image r k es z NotFormatted has is fault = absurd fault
-fault_of_events a s image r k es z Version has is fault = absurd fault
-fault_of_events a s image r k es z Device has is fault = absurd fault
-fault_of_events a s image r k es z Range has is fault = absurd fault
+fault_of_events : (a : Account) (s : Stretch) (r : Recorded) (k : ℕ) (es : List Event) (z : State) (f : InspectFault) → IsReached s r k es z → IsEventsFault (a.Fills k es z) es z f → IsTellFault a s r f
+fault_of_events a s r k es z Damaged is refused =
+    λ all. refused (subst (λ (y : State). AllAccepted es y) (sym is.state) (subst (λ (l : List Event). AllAccepted l (state_of s r)) (sym is.events) (accepted_in s r all)))
+fault_of_events a s r k es z ShadowFull is fills =
+    (is.within, subst (λ n. a.Fills n (events_of s r) (state_of s r)) is.first (subst (λ (l : List Event). a.Fills k l (state_of s r)) is.events (subst (λ (y : State). a.Fills k es y) is.state fills)))
+fault_of_events a s r k es z OutOfMemory is fault = tt
+fault_of_events a s r k es z Write is fault = tt
+fault_of_events a s r k es z NotFormatted is fault = absurd fault
+fault_of_events a s r k es z Version is fault = absurd fault
+fault_of_events a s r k es z Device is fault = absurd fault
+fault_of_events a s r k es z Range is fault = absurd fault
+
+-- a fault of telling a recording is one of the image that has it
+fault_of_telling : (a : Account) (s : Stretch) (image : List ℕ) (r : Recorded) (f : InspectFault) → RecordsTo s.to image (Ok r) → IsTellFault a s r f → IsFaultOf a s image f
+fault_of_telling a s image r Range has fault = record { recorded = r; has = recorded_to s.to image r has fault.1; outside = fault.0 }
+fault_of_telling a s image r Damaged has refused = damaged_to s.to image r has refused
+fault_of_telling a s image r ShadowFull has fault = record { recorded = r; has = has; within = fault.0; fills = fault.1 }
+fault_of_telling a s image r OutOfMemory has fault = tt
+fault_of_telling a s image r Write has fault = tt
+fault_of_telling a s image r NotFormatted has fault = absurd fault
+fault_of_telling a s image r Version has fault = absurd fault
+fault_of_telling a s image r Device has fault = absurd fault
 
 -- a fault of the reading is one of the image
 pub fault_of_reading : (a : Account) (s : Stretch) (to : Option ℕ) (image : List ℕ) (fault : RecoverFault) → AgreesOnFault fault (RecordsTo to image) → IsFaultOf a s image (of_recovery fault)
@@ -152,16 +159,25 @@ writes_text IsText text old new (Err f) is written = tt
 pub writes_kept : (IsText : List ℕ → Type 0) (a b c : Option (List ℕ)) → Writes IsText a b → Keeps b c → Writes IsText a c
 writes_kept IsText a b c writes kept = record { text = writes.text; is = writes.is; written = appends_kept a b c writes.text writes.written kept }
 
--- what was told of a stretch of a recording is told of the image that has it
-pub told_of_image : (a : Account) (s : Stretch) (image : List ℕ) (old new : Option (List ℕ)) (r : Recorded) (k : ℕ) (es : List Event) (z : State) (result : Result (Unit {0}) InspectFault) → RecordsTo s.to image (Ok r) → IsReached s r k es z
-    → OnOk result (Writes (a.IsText k es z) old new) → OnOk result (AllAccepted es z) → IfErr result (IsEventsFault (a.Fills k es z) es z) → TellsStretch a s image old new result
-told_of_image a s image old new r k es z (Ok done) has is told accepted fault = record {
-  recorded = r;
-  has = recorded_to s.to image r has (λ none. all_made s r none is.within is.before
-      (subst (λ (y : State). AllAccepted (events_of s r) y) is.state (subst (λ (l : List Event). AllAccepted l z) is.events accepted)));
+-- a stretch that was reached is told of the recording
+pub told_of_recording : (a : Account) (s : Stretch) (old new : Option (List ℕ)) (r : Recorded) (k : ℕ) (es : List Event) (z : State) (result : Result (Unit {0}) InspectFault) → IsReached s r k es z
+    → OnOk result (Writes (a.IsText k es z) old new) → OnOk result (AllAccepted es z) → IfErr result (IsEventsFault (a.Fills k es z) es z) → TellsRecording a s r old new result
+told_of_recording a s old new r k es z (Ok done) is told accepted fault = record {
   within = is.within;
+  before = is.before;
+  accepted = subst (λ (y : State). AllAccepted (events_of s r) y) is.state (subst (λ (l : List Event). AllAccepted l z) is.events accepted);
   writes =
       subst (λ n. Writes (a.IsText n (events_of s r) (state_of s r)) old new) is.first
       (subst (λ (l : List Event). Writes (a.IsText k l (state_of s r)) old new) is.events (subst (λ (y : State). Writes (a.IsText k es y) old new) is.state told));
 }
-told_of_image a s image old new r k es z (Err f) has is told accepted fault = fault_of_events a s image r k es z f has is fault
+told_of_recording a s old new r k es z (Err f) is told accepted fault = fault_of_events a s r k es z f is fault
+
+-- what was told of a stretch of a recording is told of the image that has it
+pub told_of_image : (a : Account) (s : Stretch) (image : List ℕ) (old new : Option (List ℕ)) (r : Recorded) (result : Result (Unit {0}) InspectFault) → RecordsTo s.to image (Ok r) → TellsRecording a s r old new result → TellsStretch a s image old new result
+told_of_image a s image old new r (Ok done) has told = record {
+  recorded = r;
+  has = recorded_to s.to image r has (λ none. all_made s r none told.within told.before told.accepted);
+  within = told.within;
+  writes = told.writes;
+}
+told_of_image a s image old new r (Err f) has fault = fault_of_telling a s image r f has fault

@@ -110,6 +110,32 @@ pub record Writes (IsText : List ℕ → Type 0) (old new : Option (List ℕ)) :
   pub is : IsText text
   pub written : Appends old new text
 
+-- THAT OF A RECORDING
+
+-- each event before it, and of it, is accepted at its turn, and its text was written
+pub record IsToldOf (a : Account) (s : Stretch) (r : Recorded) (old new : Option (List ℕ))
+    : Type 0 where
+  pub within : IsWithin s r.first (last_of r)
+  pub before : AllAccepted (before_of s r) r.start
+  pub accepted : AllAccepted (events_of s r) (state_of s r)
+  pub writes : Writes (a.IsText (begin_in s r) (events_of s r) (state_of s r)) old new
+
+-- what a fault says of the recording; OutOfMemory and Write say nothing of it
+abbrev pub IsTellFault : Account → Stretch → Recorded → InspectFault → Type 0
+IsTellFault a s r Range = IsReachFault s r Range
+IsTellFault a s r Damaged = IsReachFault s r Damaged
+IsTellFault a s r ShadowFull =
+    IsWithin s r.first (last_of r) × a.Fills (begin_in s r) (events_of s r) (state_of s r)
+IsTellFault a s r OutOfMemory = Unit {0}
+IsTellFault a s r Write = Unit {0}
+IsTellFault a s r _ = ⊥
+
+-- what was told of a stretch of a recording, or the fault
+abbrev pub TellsRecording : Account → Stretch → Recorded → (old new : Option (List ℕ))
+    → Result (Unit {0}) InspectFault → Type 0
+TellsRecording a s r old new (Ok done) = IsToldOf a s r old new
+TellsRecording a s r old new (Err f) = IsTellFault a s r f
+
 -- that of a stretch of what an image has recorded
 pub record IsTold (a : Account) (s : Stretch) (image : List ℕ) (old new : Option (List ℕ))
     : Type 0 where

@@ -15,5 +15,5 @@ pub use events::{advance, is_stopped, trace_event};
 pub use lines::{Before, Caller, Place, Waiting, next_caller};
 pub use names::{Answers, Arguments, answers_of, arguments_of, name_of};
 pub use recorded::Calls;
-pub use stretch::{Stretch, Telling, tell_stretch};
+pub use stretch::{Stretch, Telling, tell_recording, tell_stretch};
 pub use texts::{write_counted, write_hex, write_number};

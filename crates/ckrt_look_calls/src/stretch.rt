@@ -1,5 +1,5 @@
 //! Stretches of what a disk has recorded.
-ghost use Rattle.std.specs.Prelude.{◌≡◌, ◌≤◌, ◌<◌, ◌+◌, ◌^◌, None, IfErr, IfOk, IfSome, OnOk, length};
+ghost use Rattle.std.specs.Prelude.{◌≡◌, ◌≤◌, ◌<◌, ◌+◌, ◌^◌, false, None, IfErr, IfOk, IfSome, OnOk, length};
 ghost use Rattle.std.specs.Bool.{OnFalse, OnTrue};
 ghost use Rattle.ckrt_disk.specs.Frame.{IsOnlyRead};
 ghost use Rattle.ckrt_inspect.specs.Inspect.{is_device};
@@ -7,7 +7,7 @@ ghost use Rattle.ckrt_machine.specs.Events.{AllAccepted};
 ghost use Rattle.ckrt_look_recording.specs.Recording.{recorded_of};
 ghost use Rattle.ckrt_stored.specs.Reads as reads;
 ghost use Rattle.ckrt_stored.specs.Reads.{IsReadAs};
-ghost use Rattle.ckrt_look_calls.specs.Stretches.{IsEventsFault, IsReachFault, IsReached, IsWithin, RecordsTo, TellsStretch, Writes, begin_of, lately, to_of};
+ghost use Rattle.ckrt_look_calls.specs.Stretches.{IsEventsFault, IsReachFault, IsReached, IsWithin, RecordsTo, TellsRecording, TellsStretch, Writes, begin_of, lately, to_of};
 
 use ckrt_disk::Disk;
 use ckrt_events::Event;
@@ -165,6 +165,29 @@ fn tell_flushed<T: Telling, W: Write>(
     }
 }
 
+/// Tells a stretch of a recording: its events up to the stretch's end are made once.
+///
+/// # Errors
+///
+/// `Range` where the recording hasn't all of the stretch, or that ends before it begins; `Damaged` where one of its events isn't accepted at its
+/// turn; `ShadowFull` where the stretch fills the room of a shadow; `OutOfMemory` where a growth was refused, `Write` where the writer failed.
+pub fn tell_recording<T: Telling, W: Write>(
+    alloc: Global,
+    recording: Recording,
+    stretch: Stretch,
+    telling: &T,
+    out: &mut W,
+) -> Result<(), InspectFault>
+    ensures tells { TellsRecording (T.Tells telling.now) stretch (recorded_of recording)
+        (W.contents out.old) (W.contents out.new) result }
+    ensures device { is_device result ≡ false }
+{
+    let mut machine = recording.machine;
+    let events = recording.events;
+    let (from, told) = go_to_stretch(&mut machine, recording.first, events.as_slice(), stretch)?;
+    tell_flushed(alloc, &mut machine, from, told, telling, out)
+}
+
 /// Reads what a disk has recorded, for a stretch that ends there. Where that is given, events may lie behind it, and they're made before
 /// anything is told; else those who tell of it make them to the last, and none is made twice.
 fn read_to<D: Disk>(alloc: Global, disk: &mut D, to: Option<u64>) -> Result<Recording, RecoverFault>
@@ -200,8 +223,5 @@ pub fn tell_stretch<D: Disk, T: Telling, W: Write>(
         (W.contents out.old) (W.contents out.new) result }
 {
     let recording = read_to(alloc, disk, stretch.to)?;
-    let mut machine = recording.machine;
-    let events = recording.events;
-    let (from, told) = go_to_stretch(&mut machine, recording.first, events.as_slice(), stretch)?;
-    tell_flushed(alloc, &mut machine, from, told, telling, out)
+    tell_recording(alloc, recording, stretch, telling, out)
 }

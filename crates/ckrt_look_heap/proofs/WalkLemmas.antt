@@ -7,7 +7,8 @@ use Rattle.ckrt_machine.specs.declared.event.RunEnd.{RunEnd}
 use Rattle.ckrt_machine.specs.Runs.{stop_of, with_byte}
 use Rattle.ckrt_machine.specs.Steps.{State, hart_step}
 use Rattle.ckrt_look_steps.specs.Walks as walks
-use Rattle.ckrt_look_heap.specs.Recorded.{FillsRoom, fresh_for, heap_behind, slots_in, words_of}
+use Rattle.ckrt_look_steps.specs.Rooms.{slots_in, words_of}
+use Rattle.ckrt_look_heap.specs.Recorded.{FillsRoom, fresh_for, heap_behind}
 use Rattle.ckrt_look_heap.specs.Steps.{after_step, at, has_ended, of_end, of_event, of_events, of_run, of_step, unless_ended}
 use Rattle.ckrt_look_heap.specs.Within.{Noted, is_full, noted_all}
 use Rattle.ckrt_look_heap.specs.declared.shadow.Note.{Note}
@@ -69,4 +70,4 @@ pub all_told : (room k : ℕ) (es : List Event) (s t : State) (now new : Noted) 
 all_told room k es s t now new is end left last =
     let all = all_noted room k es s t now new is end last in
     ap (λ (v : Noted). v.heap) all
-    ∙ nothing_left_out (k == 0) (words_of s) (slots_in room (words_of s)) (of_events k es s) (ap is_full (sym all) ∙ ap is_full last ∙ end_keeps_the_room (has_ended t.tables.status) now ∙ left)
+    ∙ nothing_left_out (k == 0) (words_of s) (slots_in room 57344 (words_of s)) (of_events k es s) (ap is_full (sym all) ∙ ap is_full last ∙ end_keeps_the_room (has_ended t.tables.status) now ∙ left)

@@ -1,25 +1,18 @@
 -- The errors of memory of recorded events, as they are written.
-use Rattle.std.specs.Prelude.{◌≡◌, ℕ, ◌+◌, ◌/◌, ◌==◌, min, true, List, length}
+use Rattle.std.specs.Prelude.{◌≡◌, ℕ, ◌+◌, ◌==◌, true, List, length}
 use Rattle.ckrt_events.specs.declared.event.Event.{Event}
 use Rattle.ckrt_machine.specs.Steps.{State}
 use Rattle.ckrt_look_recording.specs.declared.rule.Rule.{Rule}
+use Rattle.ckrt_look_steps.specs.Rooms.{slots_in, words_of}
 use Rattle.ckrt_look_heap.specs.Again.{Replay, finding_text, left_text}
 use Rattle.ckrt_look_heap.specs.Shadow.{Heap, behind_all, fresh}
 use Rattle.ckrt_look_heap.specs.Steps.{of_events}
 use Rattle.ckrt_look_heap.specs.Texts.{heap_text}
 use Rattle.ckrt_look_heap.specs.Within.{Noted, fresh_within, is_full, noted_all}
 
--- how many words of memory a shadow has: from address 0 on
-abbrev pub words_of : State → ℕ
-words_of s = 1024 + length s.bytes / 4
-
--- how many slots a room of so many bytes has: no more than there are parts of so many words
-abbrev pub slots_in : (room words : ℕ) → ℕ
-slots_in room words = min (room / 57344) (words / 1024 + 1)
-
 -- nothing was noted yet of what is done from a state on, after k events, in a room of so many bytes
 abbrev pub fresh_for : (room k : ℕ) → State → Noted
-fresh_for room k s = fresh_within (k == 0) (words_of s) (slots_in room (words_of s))
+fresh_for room k s = fresh_within (k == 0) (words_of s) (slots_in room 57344 (words_of s))
 
 -- these events, of which the first is after k others, fill a room of so many bytes: the words of a part more differ than it has slots
 abbrev pub FillsRoom : (room k : ℕ) → List Event → State → Type 0

@@ -30,7 +30,7 @@ pub use laws::{
 };
 pub use notes::{is_in_heap, watch_notes};
 pub use parts::PART_BYTES;
-pub use recorded::{shadow_for, words_of, write_errors};
+pub use recorded::{shadow_for, write_errors};
 pub use replay::{Cursor, Source, copy_of};
 pub use shadow::{Note, Shadow};
 pub use texts::{write_error, write_others_line, write_times};

@@ -3,7 +3,7 @@ ghost use Rattle.std.specs.Prelude.{◌≡◌, ◌⊎◌, ◌<◌, ◌+◌, ◌^
 ghost use Rattle.std.specs.Io.KnownBytes.{Appends};
 ghost use Rattle.ckrt_inspect.specs.declared.fault.InspectFault.TheVariants.{OutOfMemory, Write as Writing};
 ghost use Rattle.ckrt_look_heap.specs.Again.{IsSound, finding_text, replay_of};
-ghost use Rattle.ckrt_look_heap.specs.Recorded.{fresh_for, slots_in, text_by, words_of};
+ghost use Rattle.ckrt_look_heap.specs.Recorded.{fresh_for, text_by};
 ghost use Rattle.ckrt_look_heap.specs.Texts.{found_text};
 
 use crate::again::write_findings;
@@ -13,29 +13,10 @@ use crate::replay::Source;
 use crate::shadow::Shadow;
 use crate::texts::{write_none, write_others_line, write_untold};
 use ckrt_inspect::InspectFault;
+use ckrt_look_steps::{slots_in, words_of};
 use ckrt_machine::Machine;
 use std::alloc::{AllocError, Global};
 use std::io::Write;
-
-/// How many words of memory there are, from address 0 on.
-pub fn words_of(machine: &Machine) -> usize
-    ensures { result ≡ words_of machine.now.state }
-{
-    1024 * machine.memory().pages() as usize
-}
-
-/// How many slots a room of so many bytes has: no more than a memory of so many words has parts.
-fn slots_in(room: u64, words: usize) -> usize
-    ensures { result ≡ slots_in room words }
-{
-    let parts = words / 1024 + 1;
-    let slots = room / PART_BYTES;
-    if slots < parts as u64 {
-        slots as usize
-    } else {
-        parts
-    }
-}
 
 /// A shadow for what a machine does after so many events: nothing is known of what was told before. It takes 64 bytes for each page of the
 /// guest's memory, and a room of so many bytes, or of as many as a shadow of all the guest's memory takes where these are fewer.
@@ -48,7 +29,7 @@ pub fn shadow_for(
     ensures { IfOk result (λ shadow. shadow ≡ fresh_for room count machine.now.state) }
 {
     let words = words_of(machine);
-    Shadow::new(alloc, count == 0, words, slots_in(room, words))
+    Shadow::new(alloc, count == 0, words, slots_in(room, PART_BYTES, words))
 }
 
 /// Writes the errors that were found.

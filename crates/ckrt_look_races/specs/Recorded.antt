@@ -1,9 +1,10 @@
 -- The races of recorded events, as they are written.
-use Rattle.std.specs.Prelude.{◌≡◌, ℕ, ◌+◌, ◌/◌, ◌++◌, min, true, List, length}
+use Rattle.std.specs.Prelude.{◌≡◌, ℕ, ◌+◌, ◌++◌, true, List, length}
 use Rattle.ckrt_events.specs.declared.event.Event.{Event}
 use Rattle.ckrt_machine.specs.Steps.{State}
 use Rattle.ckrt_look_recording.specs.declared.rule.Rule.{Rule}
 use Rattle.ckrt_look_calls.specs.Stretches.{Account}
+use Rattle.ckrt_look_steps.specs.Rooms.{slots_in, words_of}
 use Rattle.ckrt_look_clocks.specs.Detection.{Found, behind_all, fresh}
 use Rattle.ckrt_look_clocks.specs.LockHistories.{Ordered}
 use Rattle.ckrt_look_clocks.specs.Within.{Detected, fresh_within, is_full, noted_all}
@@ -13,17 +14,9 @@ use Rattle.ckrt_look_races.specs.Inversions.{inversion_text, orders_text}
 use Rattle.ckrt_look_races.specs.Steps.{of_events}
 use Rattle.ckrt_look_races.specs.Texts.{found_text}
 
--- how many words of memory a shadow has: from address 0 on
-abbrev pub words_of : State → ℕ
-words_of s = 1024 + length s.bytes / 4
-
--- how many slots a room of so many bytes has: no more than there are parts of so many words
-abbrev pub slots_in : (room words : ℕ) → ℕ
-slots_in room words = min (room / 286720) (words / 1024 + 1)
-
 -- nothing was noted yet of what is done from a state on, in a room of so many bytes
 abbrev pub fresh_for : (room : ℕ) → State → Detected
-fresh_for room s = fresh_within HOLDERS (words_of s) (slots_in room (words_of s))
+fresh_for room s = fresh_within HOLDERS (words_of s) (slots_in room 286720 (words_of s))
 
 -- these events, of which the first is behind k others, fill a room of so many bytes: they touch a part more than it has slots
 abbrev pub FillsRoom : (room k : ℕ) → List Event → State → Type 0

@@ -7,7 +7,7 @@ ghost use Rattle.ckrt_look_calls.specs.Stretches.{IsEventsFault};
 ghost use Rattle.ckrt_look_clocks.specs.Within.{noted_all, is_full};
 ghost use Rattle.ckrt_look_races.specs.Again.{IsSound, race_text, replay_of};
 ghost use Rattle.ckrt_look_races.specs.Inversions.{inversion_text, orders_text};
-ghost use Rattle.ckrt_look_races.specs.Recorded.{FillsRoom, fresh_for, races_text, slots_in, words_of};
+ghost use Rattle.ckrt_look_races.specs.Recorded.{FillsRoom, fresh_for, races_text};
 ghost use Rattle.ckrt_look_races.specs.Steps.{of_events};
 ghost use Rattle.ckrt_look_races.specs.Texts.{found_text};
 
@@ -21,6 +21,7 @@ use ckrt_events::Event;
 use ckrt_inspect::InspectFault;
 use ckrt_look_clocks::{Detector, PART_BYTES};
 use ckrt_look_recording::Rule;
+use ckrt_look_steps::{slots_in, words_of};
 use ckrt_machine::Machine;
 use std::alloc::{AllocError, Global};
 use std::io::Write;
@@ -65,26 +66,6 @@ fn watch_events(
 /// bytes each.
 pub const ROOM: u64 = 2_349_096_960;
 
-/// How many words of memory there are, from address 0 on.
-fn words_of(machine: &Machine) -> usize
-    ensures { result ≡ words_of machine.now.state }
-{
-    1024 * machine.memory().pages() as usize
-}
-
-/// How many slots a room of so many bytes has: no more than a memory of so many words has parts.
-fn slots_in(room: u64, words: usize) -> usize
-    ensures { result ≡ slots_in room words }
-{
-    let parts = words / 1024 + 1;
-    let slots = room / PART_BYTES;
-    if slots < parts as u64 {
-        slots as usize
-    } else {
-        parts
-    }
-}
-
 /// A detector for what a machine does from here on: what was done before is taken as ordered. It takes 16 MB, and a room of so many
 /// bytes, or of as many as a shadow of all the guest's memory takes where these are fewer.
 pub fn detector_for(alloc: Global, machine: &Machine, room: u64) -> Result<Detector, AllocError>
@@ -92,7 +73,7 @@ pub fn detector_for(alloc: Global, machine: &Machine, room: u64) -> Result<Detec
         ≡ fresh_for room machine.now.state) }
 {
     let words = words_of(machine);
-    Detector::new(alloc, HOLDERS, words, slots_in(room, words))
+    Detector::new(alloc, HOLDERS, words, slots_in(room, PART_BYTES, words))
 }
 
 /// Writes what was found by events.

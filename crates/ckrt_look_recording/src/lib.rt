@@ -47,7 +47,7 @@ pub use laws::{recordings_are_one, recordings_lead_on};
 pub use name::name_of;
 pub use parts::{Parts, read_parts};
 pub use quiet::{AtCalls, calm_on, go_quietly, go_quietly_to, is_ecall_at, is_quiet};
-pub use reading::{append, read_recording};
+pub use reading::{append, read_areas, read_recording};
 pub use recording::Recording;
 pub use replay::make_events;
 pub use rule::{Base, Rule, Saved, Stretch};

@@ -1,2 +1,3 @@
 pub mod Steppings
 pub mod Walks
+pub mod Rooms

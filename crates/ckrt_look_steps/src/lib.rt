@@ -5,11 +5,13 @@
 #![tactic(auto)]
 
 mod events;
+mod room;
 mod stepping;
 mod walk;
 mod watcher;
 
 pub use events::watch_events;
+pub use room::{slots_in, words_of};
 pub use stepping::{Stepping, stepping_of};
 pub use walk::watch_event;
 pub use watcher::StepWatcher;

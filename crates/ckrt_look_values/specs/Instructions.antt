@@ -24,8 +24,9 @@ use Rattle.ckrt_look_calls.specs.declared.names.Arguments.TheVariants as argumen
 use Rattle.ckrt_look_steps.specs.Steppings.{stepping_of}
 use Rattle.ckrt_look_steps.specs.declared.stepping.Stepping.{Stepping}
 use Rattle.ckrt_look_heap.specs.Notes.{is_in_heap, part_at}
+use Rattle.ckrt_look_heap.specs.declared.block.Part.{Part}
 use Rattle.ckrt_look_values.specs.Bits.{ALL, alu_unknown, is_open, loaded_unknown, ones, op_of, shift_of, some, stored_unknown}
-use Rattle.ckrt_look_values.specs.Values.{Shadow, chosen, given, known, register_of, told, with_frame, with_register, with_unknown, with_word, without_giving, word_of}
+use Rattle.ckrt_look_values.specs.Values.{Shadow, chosen, given, known, register_of, told, with_part, with_register, with_unknown, with_word, without_giving, word_of}
 use Rattle.ckrt_look_values.specs.declared.bits.Operand.{Operand}
 use Rattle.ckrt_look_values.specs.declared.instruction.Operation.{Operation}
 use Rattle.ckrt_look_values.specs.declared.value.Deed.{Deed}
@@ -87,24 +88,29 @@ abbrev pub after_load : State → Stepping → LoadKind → (rd address : ℕ) �
 after_load m s k rd a w =
     if may_access m.bytes a (load_size k) then put_loaded s k rd a w else w
 
--- STORES: what is known of the register goes into the word. What the function stores that gives a block is the heap's
+-- STORES: what is known of the register goes into the word. What the function stores there that gives a block is the heap's
 
 abbrev pub is_given : Stepping → (address : ℕ) → Giving → Bool
 is_given s a g = g.value.thread == s.thread && nat_lt (word_sub (a / 4) g.part.first) g.part.count
 
-abbrev pub stored_value : Stepping → (address : ℕ) → Value → Option Giving → Value
-stored_value s a v None = v
-stored_value s a v (Some g) = if is_given s a g then g.value else v
+abbrev pub given_at : Stepping → (address : ℕ) → Option Giving → Option Value
+given_at s a None = None
+given_at s a (Some g) = if is_given s a g then Some g.value else None
 
 abbrev pub stored_over : Size → (address : ℕ) → (stored there : Value) → Value
 stored_over z a v there =
     with_unknown (chosen (with_unknown v (bit_and v.unknown (ones z))) there)
     (stored_unknown z a v.unknown there.unknown)
 
+-- with all of its word
+abbrev pub stored_by : Size → (address : ℕ) → (stored there : Value) → Option Value → Value
+stored_by z a v there None = stored_over z a v there
+stored_by z a v there (Some g) = g
+
 abbrev pub put_stored : Stepping → Size → (rs2 address : ℕ) → Shadow → Shadow
 put_stored s z j a w =
     with_word a
-    (stored_over z a (stored_value s a (register_of s.thread j w) w.giving) (word_of a w)) w
+    (stored_by z a (register_of s.thread j w) (word_of a w) (given_at s a w.giving)) w
 
 abbrev pub after_store : State → Stepping → Size → (rs2 address : ℕ) → Shadow → Shadow
 after_store m s z j a w = if may_access m.bytes a z then put_stored s z j a w else w
@@ -120,7 +126,7 @@ is_begun _ = false
 abbrev pub lowered_to : (stack : ℕ) → Stepping → Shadow → Shadow
 lowered_to n s w =
     if nat_lt n (get s.regs 2)
-    then with_frame (record { first = n / 4; count = (get s.regs 2 - n) / 4 }) (whose s false) w
+    then with_part (record { first = n / 4; count = (get s.regs 2 - n) / 4 }) (whose s false) w
     else w
 
 abbrev pub lowered : State → Stepping → Operation → Shadow → Shadow
@@ -156,7 +162,8 @@ by_register s op rd i j w = record {
   other = register_of s.thread j w;
 }
 
--- THE KIT TELLS by SLT with rd x0 that a block is given (docs/ABI.md)
+-- THE KIT TELLS by SLT with rd x0 that a block is given, and by SLTU what is nobody's: told by the function that gives a block, that is what the
+-- block has after the bytes that were asked for (docs/ABI.md)
 
 abbrev pub giving_of : Stepping → (rs1 rs2 : ℕ) → Giving
 giving_of s i j = record {
@@ -165,8 +172,13 @@ giving_of s i j = record {
   stack = get s.regs 2;
 }
 
+abbrev pub with_rest : Stepping → Part → Option Giving → Shadow → Shadow
+with_rest s p None w = w
+with_rest s p (Some g) w = if g.value.thread == s.thread then with_part p g.value w else w
+
 abbrev pub after_hint : Stepping → AluOp → (rs1 rs2 : ℕ) → Shadow → Shadow
 after_hint s alu.Slt i j w = given (giving_of s i j) w
+after_hint s alu.Sltu i j w = with_rest s (part_at (get s.regs i) (get s.regs j)) w.giving w
 after_hint s _ i j w = w
 
 abbrev pub after_alu : State → Stepping → AluOp → (rd rs1 rs2 : ℕ) → Shadow → Shadow
@@ -194,22 +206,26 @@ after_jump m s rd i w =
 abbrev pub address_by : Stepping → (rs1 : ℕ) → ℤ → ℕ
 address_by s i offset = word_add_signed (get s.regs i) offset
 
+abbrev pub after_access : State → Stepping → Instr → Shadow → Shadow
+after_access m s (instr.Load k rd i offset) w =
+    after_load m s k rd (address_by s i offset) (with_address m s deed.Load i w)
+after_access m s (instr.Store z i j offset) w =
+    after_store m s z j (address_by s i offset) (with_address m s deed.Store i w)
+after_access m s _ w = w
+
 abbrev pub after_instruction : State → Stepping → Option Instr → Shadow → Shadow
 after_instruction m s (Some (instr.Lui rd imm)) w = with_register s.thread rd known w
 after_instruction m s (Some (instr.Auipc rd imm)) w = with_register s.thread rd known w
 after_instruction m s (Some (instr.Jal rd offset)) w = with_register s.thread rd known w
 after_instruction m s (Some (instr.Jalr rd i offset)) w = after_jump m s rd i w
 after_instruction m s (Some (instr.Branch c i j offset)) w = after_branch m s c i j w
-after_instruction m s (Some (instr.Load k rd i offset)) w =
-    after_load m s k rd (address_by s i offset) (with_address m s deed.Load i w)
-after_instruction m s (Some (instr.Store z i j offset)) w =
-    after_store m s z j (address_by s i offset) (with_address m s deed.Store i w)
 after_instruction m s (Some (instr.AluImm op rd i imm)) w =
     computed m s (by_immediate (op_of op) rd i (cast_unsigned w32 imm)) w
 after_instruction m s (Some (instr.Shift op rd i n)) w =
     computed m s (by_immediate (shift_of op) rd i n) w
 after_instruction m s (Some (instr.Alu op rd i j)) w = after_alu m s op rd i j w
-after_instruction m s _ w = w
+after_instruction m s (Some i) w = after_access m s i w
+after_instruction m s None w = w
 
 abbrev pub after_quiet : State → Stepping → Shadow → Shadow
 after_quiet m s w = after_instruction m s (fetched m.bytes s.regs.pc) (settled s w)

@@ -7,7 +7,8 @@ use Rattle.ckrt_look_recording.specs.declared.rule.Rule.{Rule}
 use Rattle.ckrt_look_calls.specs.Stretches.{Account}
 use Rattle.ckrt_look_steps.specs.Walks.{after_events}
 use Rattle.ckrt_look_heap.specs.Again.{Replay}
-use Rattle.ckrt_look_heap.specs.Recorded.{FillsRoom, errors_text, replay, text_by, words_of}
+use Rattle.ckrt_look_steps.specs.Rooms.{words_of}
+use Rattle.ckrt_look_heap.specs.Recorded.{FillsRoom, errors_text, replay, text_by}
 use Rattle.ckrt_look_heap.specs.Texts.{others_line}
 use Rattle.ckrt_look_values.specs.Again.{finding_text}
 use Rattle.ckrt_look_values.specs.Instructions.{after_step}

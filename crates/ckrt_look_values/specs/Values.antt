@@ -123,8 +123,8 @@ abbrev pub filled : (n first : ℕ) → Value → List Value → List Value
 filled zero first v vs = vs
 filled (suc n) first v vs = slice_set (filled n first v vs) (first + n) v
 
-abbrev pub with_frame : Part → Value → Shadow → Shadow
-with_frame p v s = record s { words = filled (few p s.words) p.first v s.words }
+abbrev pub with_part : Part → Value → Shadow → Shadow
+with_part p v s = record s { words = filled (few p s.words) p.first v s.words }
 
 abbrev pub given : Giving → Shadow → Shadow
 given g s = record s { giving = Some g }

@@ -2,8 +2,9 @@
 ghost use Rattle.std.specs.Prelude.{◌≡◌, ◌<◌};
 ghost use Rattle.std.specs.Int.{w32, cast_unsigned};
 ghost use Rattle.ckrt_rv32i.specs.Effect.{load_size};
+ghost use Rattle.ckrt_rv32i.specs.Table.{IsInRange};
 ghost use Rattle.ckrt_look_recording.specs.Accesses.{fetched};
-ghost use Rattle.ckrt_look_values.specs.Instructions.{address_by, after_alu, after_branch, after_hint, after_instruction, after_jump, after_load, after_quiet, after_store, branch_by, by_immediate, by_register, computed, giving_of, is_begun, is_given, is_over, loaded_from, lowered, lowered_to, operand, put_loaded, put_stored, result_of, right_of, settled, stored_over, stored_value, unknown_by, tell_use, unless_known, use_of, whose, with_address};
+ghost use Rattle.ckrt_look_values.specs.Instructions.{address_by, after_access, after_alu, after_branch, after_hint, after_instruction, after_jump, after_load, after_quiet, after_store, branch_by, by_immediate, by_register, computed, given_at, giving_of, is_begun, is_given, is_over, loaded_from, lowered, lowered_to, operand, put_loaded, put_stored, result_of, right_of, settled, stored_by, stored_over, tell_use, unknown_by, unless_known, use_of, whose, with_address, with_rest};
 
 use crate::bits::{
     Operand, alu_unknown, is_open, loaded_unknown, ones, op_of, shift_of, some, stored_unknown,
@@ -182,19 +183,15 @@ fn is_given(step: &Stepping, address: u32, giving: &Giving) -> bool
         && AluOp::Sub.apply(address / 4, giving.part.first) < giving.part.count
 }
 
-/// What is stored: in a block that is just given, the heap's.
-fn stored_value(step: &Stepping, address: u32, value: Value, giving: Option<Giving>) -> Value
-    ensures { result ≡ stored_value step.now address value giving }
+/// What is known of a word there, if its thread is just given the block.
+fn given_at(step: &Stepping, address: u32, giving: Option<Giving>) -> Option<Value>
+    ensures { result ≡ given_at step.now address giving }
 {
-    match giving {
-        Some(giving) => {
-            if is_given(step, address, &giving) {
-                giving.value
-            } else {
-                value
-            }
-        }
-        None => value,
+    let giving = giving?;
+    if is_given(step, address, &giving) {
+        Some(giving.value)
+    } else {
+        None
     }
 }
 
@@ -207,14 +204,24 @@ fn stored_over(size: Size, address: u32, value: Value, there: Value) -> Value
     with_unknown(chosen(stored, there), unknown)
 }
 
+/// The same, where a block may be just given.
+fn stored_by(size: Size, address: u32, value: Value, there: Value, given: Option<Value>) -> Value
+    ensures { result ≡ stored_by size address value there given }
+{
+    match given {
+        Some(given) => given,
+        None => stored_over(size, address, value, there),
+    }
+}
+
 /// A word gets what is stored.
 fn put_stored(step: &Stepping, size: Size, rs2: u8, address: u32, values: &mut Values)
     ensures { values.new ≡ put_stored step.now size rs2 address values.old }
 {
     let value = values.register(step.thread, rs2);
-    let stored = stored_value(step, address, value, values.giving());
     let there = values.word(address);
-    values.set_word(address, stored_over(size, address, stored, there));
+    let given = given_at(step, address, values.giving());
+    values.set_word(address, stored_by(size, address, value, there, given));
 }
 
 /// A store, if it is none that faults.
@@ -248,7 +255,7 @@ fn lower_to(stack: u32, step: &Stepping, values: &mut Values)
             first: stack / 4,
             count: (was - stack) / 4,
         };
-        values.frame(part, whose(step, false));
+        values.set_part(part, whose(step, false));
     }
 }
 
@@ -298,28 +305,28 @@ fn compute(machine: &Machine, step: &Stepping, it: &Operation, values: &mut Valu
     values.put(step.thread, it.rd, result_of(step, it, value));
 }
 
-/// The same, of a register and a word that is known.
-fn compute_with(
-    machine: &Machine,
-    step: &Stepping,
-    op: AluOp,
-    rd: u8,
-    rs1: u8,
-    right: u32,
-    values: &mut Values,
-)
-    requires { rs1 < 32 }
-    ensures { values.new
-        ≡ computed machine.now.state step.now (by_immediate op rd rs1 right) values.old }
+/// An operation on a register and a word that is known.
+fn by_word(op: AluOp, rd: u8, rs1: u8, right: u32) -> Operation
+    ensures { result ≡ by_immediate op rd rs1 right }
 {
-    let it = Operation {
+    Operation {
         op,
         rd,
         rs1,
         right,
         other: known(),
-    };
-    compute(machine, step, &it, values);
+    }
+}
+
+/// What is nobody's: told by the function that gives a block, it is the rest of the block.
+fn leave_rest(step: &Stepping, part: Part, values: &mut Values)
+    ensures { values.new ≡ with_rest step.now part values.old.giving values.old }
+{
+    if let Some(giving) = values.giving() {
+        if giving.value.thread == step.thread {
+            values.set_part(part, giving.value);
+        }
+    }
 }
 
 /// What the kit tells.
@@ -328,15 +335,17 @@ fn hint(step: &Stepping, op: AluOp, rs1: u8, rs2: u8, values: &mut Values)
     requires rs2 { rs2 < 32 }
     ensures { values.new ≡ after_hint step.now op rs1 rs2 values.old }
 {
+    let part = Part {
+        first: step.regs.get(rs1) / 4,
+        count: step.regs.get(rs2) / 4,
+    };
     match op {
         AluOp::Slt => values.give(Giving {
             value: whose(step, true),
-            part: Part {
-                first: step.regs.get(rs1) / 4,
-                count: step.regs.get(rs2) / 4,
-            },
+            part,
             stack: step.regs.get(STACK),
         }),
+        AluOp::Sltu => leave_rest(step, part, values),
         _ => {}
     }
 }
@@ -377,6 +386,36 @@ fn address_by(step: &Stepping, rs1: u8, offset: i32) -> u32
     step.regs.get(rs1).wrapping_add_signed(offset)
 }
 
+/// A load or a store.
+fn watch_access(machine: &Machine, step: &Stepping, instr: Instr, values: &mut Values)
+    requires { IsInRange instr }
+    ensures { values.new ≡ after_access machine.now.state step.now instr values.old }
+{
+    match instr {
+        Instr::Load {
+            kind,
+            rd,
+            rs1,
+            offset,
+        } => {
+            tell_address(machine, step, Deed::Load, rs1, values);
+            let address = address_by(step, rs1, offset);
+            load(machine, step, kind, rd, address, values);
+        }
+        Instr::Store {
+            size,
+            rs1,
+            rs2,
+            offset,
+        } => {
+            tell_address(machine, step, Deed::Store, rs1, values);
+            let address = address_by(step, rs1, offset);
+            store(machine, step, size, rs2, address, values);
+        }
+        _ => {}
+    }
+}
+
 /// An instruction.
 fn watch_instruction(machine: &Machine, step: &Stepping, values: &mut Values)
     ensures { values.new ≡ after_instruction machine.now.state step.now
@@ -395,66 +434,17 @@ fn watch_instruction(machine: &Machine, step: &Stepping, values: &mut Values)
                 ..
             },
         ) => branch(machine, step, condition, rs1, rs2, values),
-        Some(
-            Instr::Load {
-                kind,
-                rd,
-                rs1,
-                offset,
-            },
-        ) => {
-            tell_address(machine, step, Deed::Load, rs1, values);
-            load(
-                machine,
-                step,
-                kind,
-                rd,
-                address_by(step, rs1, offset),
-                values,
-            );
-        }
-        Some(
-            Instr::Store {
-                size,
-                rs1,
-                rs2,
-                offset,
-            },
-        ) => {
-            tell_address(machine, step, Deed::Store, rs1, values);
-            store(
-                machine,
-                step,
-                size,
-                rs2,
-                address_by(step, rs1, offset),
-                values,
-            );
-        }
         Some(Instr::AluImm { op, rd, rs1, imm }) => {
-            compute_with(
-                machine,
-                step,
-                op_of(op),
-                rd,
-                rs1,
-                imm.cast_unsigned(),
-                values,
-            );
+            let it = by_word(op_of(op), rd, rs1, imm.cast_unsigned());
+            compute(machine, step, &it, values);
         }
         Some(Instr::Shift { op, rd, rs1, shamt }) => {
-            compute_with(
-                machine,
-                step,
-                shift_of(op),
-                rd,
-                rs1,
-                u32::from(shamt),
-                values,
-            );
+            let it = by_word(shift_of(op), rd, rs1, u32::from(shamt));
+            compute(machine, step, &it, values);
         }
         Some(Instr::Alu { op, rd, rs1, rs2 }) => alu(machine, step, op, rd, rs1, rs2, values),
-        _ => {}
+        Some(instr) => watch_access(machine, step, instr, values),
+        None => {}
     }
 }
 

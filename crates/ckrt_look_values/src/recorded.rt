@@ -14,11 +14,9 @@ use crate::checking::Checking;
 use crate::values::Values;
 use ckrt_events::Event;
 use ckrt_inspect::InspectFault;
-use ckrt_look_heap::{
-    Source, copy_of, shadow_for, watch_end, words_of, write_errors, write_others_line,
-};
+use ckrt_look_heap::{Source, copy_of, shadow_for, watch_end, write_errors, write_others_line};
 use ckrt_look_recording::Rule;
-use ckrt_look_steps::watch_events;
+use ckrt_look_steps::{watch_events, words_of};
 use ckrt_machine::Machine;
 use std::alloc::{AllocError, Global};
 use std::io::Write;

@@ -46,7 +46,7 @@ impl Model for Values {
 }
 
 impl Values {
-    ghost use Rattle.ckrt_look_values.specs.Values.{fresh, given, register_of, told, with_frame, with_register, with_word, word_of, without_giving};
+    ghost use Rattle.ckrt_look_values.specs.Values.{fresh, given, register_of, told, with_part, with_register, with_word, word_of, without_giving};
 
     /// All is known of a memory of so many words.
     pub(crate) fn new(alloc: Global, words: usize) -> Result<Values, AllocError>
@@ -92,9 +92,9 @@ impl Values {
         set_value(&mut self.words, (address / 4) as usize, value);
     }
 
-    /// A frame of a stack is given.
-    pub(crate) fn frame(&mut self, part: Part, value: Value)
-        ensures { self.new ≡ with_frame part value self.old }
+    /// Puts the same for a part of memory that is given.
+    pub(crate) fn set_part(&mut self, part: Part, value: Value)
+        ensures { self.new ≡ with_part part value self.old }
     {
         fill(&mut self.words, part, value);
     }

@@ -20,4 +20,4 @@ pub mod ScheduleLemmas
 mod FillLemmas
 pub mod EmptyingLemmas
 pub mod RowLemmas
-mod CopyLemmas
+pub mod CopyLemmas

@@ -1,4 +1,5 @@
-//! Each text that the program says of a fault: the file with its path, what is wrong and what to do, and the line with the fault's name; and which reason of a failed output each error of the system is.
+//! Each text that the program says of a fault: the file with its path, what is wrong and what to do, and the line with the fault's name. And
+//! which reason of a failed output each error of the system is.
 
 use crate::expect::expect_eq_at;
 use ckrt_cli_files::{FileFault, JobFile, OutputReason, ToldWriter};

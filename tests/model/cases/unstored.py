@@ -4,13 +4,15 @@ from dataclasses import dataclass
 
 from cases.heaped import BYTES, HEAP, HEAP_LOCKS, SLOT, SLOTS, Heaped, checks_case
 from cases.nested import ZONE
-from model.abi import Call
+from model.abi import RETURN_GATE, Call
 from model.assembler import (START, Branch, Label, LoadLabel, add_immediate, branch_form, call_words, immediate_form, jump_register, load_number,
                              load_upper, register_form, store_form)
 from model.processor import ECALL
 
 WORDS = range(0x3000, 0x3020, 4)  # of frames, which are used most
 BESIDE_WORDS = 0x3024  # where no address of odd code comes
+MEMORY = range(START, 0x10000)
+BEYOND = [(0xFF8, 3), (0xFFFC, 4), (0x10000, 2), (0xFFFFFFF8, 0x800)]  # the first one of words that memory doesn't have, or not all, and how many
 OF_JUMPS = 0x3200  # a word of each thread: no other one stores there
 POOL = [5, 6, 7, 12, 13, 14, 15, 18, 20]  # registers that are computed with
 NUMBERS = [0, 0, 1, 0x41, 0x4100, 0x410041, 0x41004141, 0x00414243, 0x80000000, 0x7FFFFFFF, -1, -256]
@@ -18,7 +20,7 @@ OPERATIONS = [(0, 0), (32, 0), (0, 1), (0, 2), (0, 3), (0, 4), (0, 5), (32, 5), 
 CONSTANTS = [0, 1, -1, 4, 8, 15, 16, 255, 256, -256, 2047, -2048]
 NO_INSTRUCTIONS = [branch_form(2, 5, 5, 4), immediate_form(0x67, 1, 0, 5, 0), immediate_form(0x03, 3, 6, 5, 0), store_form(3, 5, 0, 5)]
 NOTHING, AUIPC = add_immediate(0, 0, 0), 0x00003117  # the latter to the stack pointer
-ROOM = HEAP - START - 1500  # bytes of code: what comes after the pieces of threads has the rest
+ROOM = HEAP - START - 1700  # bytes of code: what comes after the pieces of threads has the rest
 # Calls that neither end nor wait, mostly, whatever they take.
 CALLS = [2, 2, 2, 4, 5, 10, 11, 12, 14, 20, 21, 23, 24, 25, 30, 31, 33, 34, 35, 40, 41, 50, 51, 53, 55, 56, 60, 61, 62, 64, 65, 70, 71, 72, 73, 99]
 WORST = [1, 3, 13, 22, 32, 42, 52, 54, 63]  # these may end or wait
@@ -28,6 +30,11 @@ WORST = [1, 3, 13, 22, 32, 42, 52, 54, 63]  # these may end or wait
 class Mark:
     """A label among the words of a piece."""
     name: str
+
+
+def shown_beside(kind, offset):
+    """Whether bits of what is loaded so far from the address in register 3 are unknown, where none of the others is a 1."""
+    return [immediate_form(0x03, kind, 5, 3, offset), branch_form(6, 0, 5, 4)]
 
 
 class Unstored(Heaped):
@@ -55,7 +62,8 @@ class Unstored(Heaped):
         a block that the last thread of its number may have been given."""
         self.program.label("short")
         stores, gives = self.of_number() if self.chance.random() < 0.5 else ([], [])
-        ends = call_words(Call.THREAD_EXIT, 0) if gives else self.chance.choice([call_words(Call.THREAD_EXIT, 0), [jump_register(0, 1, 0)]])
+        returns = [] if gives else [[*load_number(1, RETURN_GATE), jump_register(0, 1, 0)]]
+        ends = self.chance.choice([call_words(Call.THREAD_EXIT, 0), *returns])
         self.program.add([*self.looked_at(), *stores, *self.left_over(), *gives, *ends])
         self.program.label("handler")
         self.program.add([*self.looked_at(), *self.left_over(), *load_number(1, 0xFFFFFFF4), jump_register(0, 1, 0)])
@@ -131,7 +139,7 @@ class Unstored(Heaped):
 
     def shown(self, at):
         """Whether the word's bits are unknown, but for those that a known 1 is above."""
-        return [*load_number(3, at), immediate_form(0x03, 2, 5, 3, 0), branch_form(6, 0, 5, 4)]
+        return [*load_number(3, at), *shown_beside(2, 0)]
 
     def place(self, width):
         """Of a byte in one of the words, or of a block."""
@@ -250,13 +258,70 @@ class Unstored(Heaped):
         slot = chance.choice(free)
         words = [*load_number(2, chance.choice([0x3080, 0x3100, 0x3000])), *self.taken_at(slot, chance.choice(BYTES))]
         for _ in range(chance.choice([1, 2, 4])):
-            kind = chance.choice([0, 1, 2, 2])
-            at = self.address(slot) + chance.choice([0, 4, 4, 5, 8, chance.randrange(SLOT)]) & -(1 << kind)
-            words += [*load_number(3, at), store_form(kind, chance.choice([0, self.register()]), 0, 3)]
-            words += chance.choice([[], [], [], [add_immediate(2, 2, -16)], [add_immediate(2, 2, 16)], self.another()])
+            words += [*self.zeroed(slot), *self.meanwhile(slot)]
         leave = chance.choice([[add_immediate(2, 2, 16)], [add_immediate(2, 2, 16)], load_number(2, 0x4000), [add_immediate(2, 2, -16)], []])
+        leave = self.parted(slot) if chance.random() < 0.4 else leave
         again = [*load_number(3, self.address(slot) + 4 * chance.choice([1, 1, 2])), store_form(2, 0, 0, 3)] if chance.random() < 0.5 else []
         return [*words, *leave, *again, *(word for at in (0, 4, 8) for word in self.shown(self.address(slot) + at))]
+
+    def zeroed(self, slot):
+        """A store into the block or beside it, of zeros or of what a register has; mostly it shows whether a byte of that word is unknown then."""
+        chance, kind = self.chance, self.chance.choice([0, 1, 2, 2])
+        at = self.address(slot) + chance.choice([0, 4, 4, 5, 8, chance.randrange(SLOT)]) & -(1 << kind)
+        store = [*load_number(3, at), store_form(kind, chance.choice([0, self.register()]), 0, 3)]
+        return [*store, *(shown_beside(chance.choice([0, 4]), chance.randrange(4) - at % 4) if chance.random() < 0.7 else [])]
+
+    def meanwhile(self, slot):
+        """What the function of a block does between two stores, if anything."""
+        return self.chance.choices([list, self.moved, self.another, lambda: self.nobodys(slot)], [3, 2, 1, 3])[0]()
+
+    def moved(self):
+        """A stack pointer that is above or below then: above it ends the function, unless it was below before."""
+        return [add_immediate(2, 2, self.chance.choice([-16, 16]))]
+
+    def nobodys(self, slot):
+        """Words are told to be nobody's; or what begins there, if anything, is given back, which makes nothing unknown."""
+        first, count = self.chance.choices([self.rest, self.part, self.elsewhere], [5, 4, 1])[0](slot)
+        told = self.compared(first, 4 * (0 if self.chance.random() < 0.1 else count), False)
+        return self.shown_around(first, count, told)
+
+    def parted(self, slot):
+        """The rest of the slot is told to be nobody's from a part of a word on, or up to one, and the function returns. The page leaves open whose such a word
+        is. So all of it is told then, which makes nothing unknown."""
+        words, over, less = self.words_after(slot), self.chance.randrange(4), self.chance.randrange(4)
+        if not words:
+            return load_number(2, 0x4000)
+        told = self.compared(words[0] + over, max(1, 4 * len(words) - over - less), False)
+        return self.shown_around(words[0], len(words), [*told, *load_number(2, 0x4000), *self.compared(words[0], 4 * len(words), False)])
+
+    def shown_around(self, first, count, told):
+        """Some words at the ends of these and beside them: zeros are stored there at times, and after what is told it shows which are unknown."""
+        offsets = [offset for offset in sorted({-4, 0, 4 * count - 8, 4 * count - 4, 4 * count}) if first + offset in MEMORY]
+        zeros = [store_form(2, 0, offset, 3) for offset in offsets if self.chance.random() < 0.7]
+        ends = [word for offset in offsets if self.chance.random() < 0.7 for word in shown_beside(2, offset)]
+        return [*load_number(3, first), *zeros, *told, *ends]
+
+    def words_after(self, slot):
+        """Those of the slot after the bytes that were asked for; none where its block has all of it."""
+        return range(self.address(slot) + 4 + (self.taken[slot] + 3 & -4), self.address(slot) + SLOT, 4)
+
+    def rest(self, slot):
+        """Some of these, if there are any: the first one, and how many."""
+        return self.some(self.words_after(slot)) if self.words_after(slot) else self.part(slot)
+
+    def part(self, slot):
+        """The same of that block's words, or of those of another one of its own."""
+        slot = self.chance.choice([slot, *self.taken])
+        return self.some(range(self.address(slot) + 4, self.address(slot) + 4 + self.taken[slot], 4))
+
+    def some(self, words):
+        """Some words in a row: the first one, and how many."""
+        first, last = sorted(self.chance.choices(words, k=2))
+        return first, (last - first) // 4 + 1
+
+    def elsewhere(self, _):
+        """The same of words that frames use, or of what begins before memory, or ends after it."""
+        return self.chance.choice([(self.chance.choice(WORDS), self.chance.choice([1, 2])), self.chance.choice(BEYOND)])
 
     def another(self):
         """A block of its own, if there is room."""

@@ -9,7 +9,7 @@ from model.bits import EQUAL, ORDERED, SHIFTS, Value, decide_branch, unknown_aft
 from model.callers import callers_of, word_at
 from model.calls import row_of
 from model.checks import HEAP_LOCK, PLACES, lines_of_moment
-from model.heap import Moment
+from model.heap import Moment, note_of
 from model.listing import address_text
 from model.processor import ARITHMETIC, ECALL, Instruction
 from model.races import times
@@ -124,6 +124,7 @@ class Values:
             self.tell(machine, thread_id, *use, position)
         self.follow(machine, thread_id, instruction, left, right, position)
         self.note_given(machine, thread_id, position)
+        self.note_nobodys(machine, thread_id)
         return self.with_frame(machine, thread_id, word, position, make)
 
     def value(self, machine, thread_id, register):
@@ -170,12 +171,13 @@ class Values:
         return (found, memory) if found else KNOWN
 
     def store(self, thread_id, access, value):
-        """Into a block that is being given all is unknown. A word's memory is what is stored, if that has unknown bits."""
+        """Of a block that is being given the whole word is unknown then. A word's memory is what is stored, if that has unknown bits."""
         if access is None:
             return
-        stored, memory = value.unknown & (1 << 8 * access.length) - 1, value.memory
         if self.giving and self.giving.thread == thread_id and access.word in self.giving.words:
-            stored, memory = ALL_ONES, self.giving.memory
+            self.words[access.word] = ALL_ONES, self.giving.memory
+            return
+        stored, memory = value.unknown & (1 << 8 * access.length) - 1, value.memory
         before, was = self.words.get(access.word, KNOWN)
         self.words[access.word] = unknown_after_store(before, access.address, access.length, stored), memory if stored else was
 
@@ -186,6 +188,17 @@ class Values:
             memory = Memory("in a block that was taken", self.moment(machine, thread_id, position))
             self.giving = Giving(thread_id, machine.threads[thread_id].registers[STACK_POINTER], words, memory)
 
+    def note_nobodys(self, machine, thread_id):
+        """What the function of a block that is being given tells to be nobody's is unknown then, and that block's."""
+        first, length, is_given = note_of(machine, thread_id) or (0, 0, True)
+        if not is_given and self.giving and self.giving.thread == thread_id:
+            self.make_unknown(machine, first // 4, length // 4, self.giving.memory)
+
+    def make_unknown(self, machine, first, count, memory):
+        """So many words from that one on, where there is memory."""
+        begin, end = max(4 * first, PAGE), min(4 * (first + count), machine.memory.end)
+        self.words.update((at, (ALL_ONES, memory)) for at in range(begin, end, 4))
+
     def with_frame(self, machine, thread_id, word, position, make):
         """Makes the step. Where it lowers the stack pointer, a quarter as many words as that gets less are a frame's, from its own word on."""
         if not is_stack_pointer_computed(word) or is_after_upper(machine.memory, machine.threads[thread_id].pc):
@@ -193,8 +206,7 @@ class Values:
         registers, memory = machine.threads[thread_id].registers, Memory("in a frame that was made", self.moment(machine, thread_id, position))
         old, made = registers[STACK_POINTER], make()
         first, count = registers[STACK_POINTER] // 4, (old - registers[STACK_POINTER]) // 4
-        begin, end = max(4 * first, PAGE), min(4 * (first + count), machine.memory.end)
-        self.words.update((at, (ALL_ONES, memory)) for at in range(begin, end, 4))
+        self.make_unknown(machine, first, count, memory)
         return made
 
     def lines(self):

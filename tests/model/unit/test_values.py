@@ -45,6 +45,10 @@ def given(at=BLOCK, length=12, register=6):
     return [*load_number(7, at), *load_number(register, length), register_form(0, 2, 0, 7, register)]
 
 
+def nobodys(at, length):
+    return [*load_number(7, at), *load_number(6, length), register_form(0, 3, 0, 7, 6)]
+
+
 def beside(register, other=0, funct3=0):
     """A branch to the next instruction, whichever way it goes."""
     return [branch_form(funct3, register, other, 4)]
@@ -344,10 +348,10 @@ class Blocks(Guests):
         return self.stored(*load_number(2, 0x1800), *before, *given(), *words, *store(0, at), *behind, at=at & -4)
 
     def test_stores(self):
-        """All that is stored into it is unknown, also what is known; no other word is."""
+        """A word that is stored into is unknown whole, also by a part that is known; no other word is."""
         self.assertEqual([self.zeroed(at=BLOCK + at) for at in (-4, 0, 4, 8, 12)], [0, ALL_ONES, ALL_ONES, ALL_ONES, 0])
-        self.assertEqual(self.stored(*given(), *store(0, BLOCK + 5, BYTE), at=BLOCK + 4), 0xFF00)
-        self.assertEqual(self.stored(*given(), *store(0, BLOCK + 6, HALF), at=BLOCK + 4), 0xFFFF0000)
+        self.assertEqual([self.stored(*given(), *store(0, BLOCK + at, width), at=BLOCK + 4) for at, width in ((5, BYTE), (6, HALF), (4, WORD), (3, BYTE), (8, BYTE))],
+                         [ALL_ONES, ALL_ONES, ALL_ONES, 0, 0])
         self.assertEqual([self.stored(*given(BLOCK + over), *store(0, BLOCK + at), at=BLOCK + at) for over in (1, 3) for at in (0, 8, 12)], [ALL_ONES, ALL_ONES, 0] * 2)
 
     def test_nothing_stored(self):
@@ -385,6 +389,28 @@ class Blocks(Guests):
             turns = (2, [*given(), *EXIT]), (3, [*call(Call.JOIN, 2), *call(Call.CREATE, Label("routine"), 0, 0, 0)]), (2, len(routine))
             values = recording_of(turns, routines=[("routine", routine)]).show(Values())
             self.assertEqual(values.words.get(BLOCK + 4, (0,))[0], mask)
+
+    def told_of_nobody(self, *words):
+        """The addresses of the words that are unknown then."""
+        return [at for at, (mask, _) in sorted(recording_of([(2, list(words))]).show(Values()).words.items()) if mask]
+
+    def test_nobodys(self):
+        """A quarter as many words as bytes are told, from the first one's on, in the block or not; none by a block that is given back."""
+        for at, length, words in ((BLOCK + 8, 8, [BLOCK + 8, BLOCK + 12]), (BLOCK + 12, 4, [BLOCK + 12]), (AT, 4, [AT]), (BLOCK + 11, 4, [BLOCK + 8]),
+                                  (BLOCK + 9, 7, [BLOCK + 8]), (BLOCK + 8, 3, []), (BLOCK + 11, 3, []), (BLOCK + 4, 0, []),
+                                  (0xFFC, 8, [0x1000]), (0xFFF8, 16, [0xFFF8, 0xFFFC]), (0x10000, 4, []), (0xFFFFFFF8, 0x2000, []), (0xFFFC, -4, [0xFFFC])):
+            self.assertEqual(self.told_of_nobody(*given(), *nobodys(at, length)), words, (at, length))
+        self.assertEqual(self.told_of_nobody(*given(), *nobodys(BLOCK, 4)[:-1], register_form(0, 3, 8, 7, 6)), [])  # compared
+
+    def test_nobodys_giving(self):
+        """Only while a block is being given, to that thread; what is stored there is known again, but in the block."""
+        leave, there = add_immediate(2, 2, 16), nobodys(BLOCK + 8, 8)
+        for words, unknown_ones in ((there, []), ([*there, *given()], []), ([*given(), leave, *there], []), ([*given(), *there, leave], [BLOCK + 8, BLOCK + 12])):
+            self.assertEqual(self.told_of_nobody(*words), unknown_ones)
+        self.assertEqual(self.told_of_nobody(*given(), *there, *store(0, BLOCK + 8), *store(0, BLOCK + 12)), [BLOCK + 8])
+        self.assertEqual(self.told_of_nobody(*given(), *there, leave, *store(0, BLOCK + 8)), [BLOCK + 12])
+        for turns in ([(2, given()), (3, there)], [(2, given()), (3, given(AT)), (2, there)]):
+            self.assertEqual(recording_of(turns).show(Values()).words, {})
 
     def test_stays(self):
         """Unknown it is until something is stored behind that."""
@@ -496,7 +522,8 @@ class Whose(Guests):
         lines = told((2, frame()), (3, [*frame(), *load(5), *beside(5)]))
         self.assertIn("by thread 3", lines[1])
         self.assertEqual(self.told_of(*unknown(8), *given(), *store(8, BLOCK + 4), *load(5, BLOCK + 4), *beside(5)), [self.IS_BLOCK])
-        self.assertEqual(self.told_of(*frame(BLOCK, 16), *self.BLOCK_WORD, *load(5, BLOCK + 4), *beside(5)), [self.IS_BLOCK])
+        for words in (store(0, BLOCK + 4), store(0, BLOCK + 7, BYTE), store(8, BLOCK + 7, BYTE), nobodys(BLOCK + 4, 4)):
+            self.assertEqual(self.told_of(*unknown(8), *frame(BLOCK, 16), *given(), *words, *load(5, BLOCK + 4), *beside(5)), [self.IS_BLOCK])
         self.assertEqual(self.told_of(*self.BLOCK_WORD, *frame(BLOCK, 16), *load(5, BLOCK + 4), *beside(5)), [self.IS_FRAME])
 
 

@@ -143,8 +143,9 @@ WRONG = {
         (STORED, "if self.giving and access.word in self.giving.words:"),
         (STORED, "if self.giving and self.giving.thread == thread_id:"),
         (STORED, "if self.giving and self.giving.thread == thread_id and access.word in self.giving.words[1:]:"),
-        ("stored, memory = ALL_ONES, self.giving.memory", "stored, memory = value.unknown, self.giving.memory"),
-        ("stored, memory = ALL_ONES, self.giving.memory", "stored, memory = ALL_ONES, memory or self.giving.memory"),
+        ("self.words[access.word] = ALL_ONES, self.giving.memory", "self.words[access.word] = unknown_after_store(self.words.get(access.word, KNOWN)[0], access.address, "
+                                                                   "access.length, ALL_ONES), self.giving.memory"),
+        ("self.words[access.word] = ALL_ONES, self.giving.memory", "self.words[access.word] = ALL_ONES, value.memory or self.giving.memory"),
         ("access.length, stored), memory if stored else was", "access.length, stored), memory or was"),
         ("access.length, stored), memory if stored else was", "access.length, stored), was or memory"),
         ("access.length, stored), memory if stored else was", "access.length, stored), memory if stored else self.giving and self.giving.memory"),

@@ -10,7 +10,8 @@ use Rattle.ckrt_look_clocks.proofs.WithinLemmas.{nothing_left_out}
 use Rattle.ckrt_look_races.specs.Again.{race_text}
 use Rattle.ckrt_look_races.specs.Holders.{HOLDERS}
 use Rattle.ckrt_look_races.specs.Inversions.{inversion_text, orders_text}
-use Rattle.ckrt_look_races.specs.Recorded.{FillsRoom, found_by, fresh_for, orders_by, replay, slots_in, words_of}
+use Rattle.ckrt_look_steps.specs.Rooms.{slots_in, words_of}
+use Rattle.ckrt_look_races.specs.Recorded.{FillsRoom, found_by, fresh_for, orders_by, replay}
 use Rattle.ckrt_look_races.specs.Steps.{of_events}
 use Rattle.ckrt_look_races.specs.Texts.{found_text}
 use Rattle.ckrt_look_races.proofs.recorded.write_races.Goals as goal
@@ -19,7 +20,7 @@ pub returns-clause-races : goal.returns-clause-races
 returns-clause-races g c =
     let s = c.args.machine.now.state in let k = c.args.count in let es = c.args.events.now in let by = c.args.rules.now in
     let os = of_events k es s in
-    let slots = slots_in c.args.room (words_of s) in
+    let slots = slots_in c.args.room 286720 (words_of s) in
     let begun : c.in-Ok.detector ≡ fresh_within HOLDERS (words_of s) slots = c.in-Ok.ensures in
     let noted : c.watch_events.new.detector ≡ noted_all os (fresh_within HOLDERS (words_of s) slots) =
     c.in_ok-watch_events.ensures.watched ∙ ap (λ (d : Detected). noted_all os d) begun in

@@ -2,7 +2,7 @@ use Rattle.std.proofs.Common.{◌≡◌, ◌∙◌, ◌≤◌, ◌<◌, ◌-◌,
 use Rattle.std.proofs.lemmas.Bool.{cases_eq}
 use Rattle.ckrt_memory.specs.Pages.{page_of, with_page}
 use Rattle.ckrt_gdb_history.specs.Pool.{page_in}
-use Rattle.ckrt_gdb_history.proofs.CopyLemmas.{put_elsewhere, put_size, put_there}
+use Rattle.ckrt_stored.proofs.CopyLemmas.{put_elsewhere, put_size, put_there}
 use Rattle.ckrt_gdb_history.proofs.PoolLemmas.{below, gathered_is, gathered_size, named_in}
 use Rattle.ckrt_gdb_history.proofs.pool.PagePool.restore.Goals as goal
 
