@@ -34,11 +34,11 @@ void *__guest_take(size_t bytes) {
     return block;
 }
 
-size_t __guest_give(void *block, size_t bytes) {
-    size_t asked = __guest_taking.asked;
-    if (asked != 0) bytes = asked - 1;
+size_t __guest_give(void *block, size_t has) {
+    size_t asked = __guest_taking.asked, bytes = asked != 0 ? asked - 1 : has;
     __guest_taking.given = block;
     tell_given(block, bytes);
+    tell_rest(block, bytes, has);
     return bytes;
 }
 

@@ -22,8 +22,8 @@ struct taking {
 };
 extern _Thread_local struct taking __guest_taking;
 
-/* A block of so many bytes is told as given, or of as many as were asked for: the answer is how many it has. */
-size_t __guest_give(void *block, size_t bytes);
+/* A block that has so many bytes is told as given, or as many of them as were asked for: the answer is how many were told. */
+size_t __guest_give(void *block, size_t has);
 
 /*
  * What is told to those who look back (docs/ABI.md), by instructions that do nothing: SLT and SLTU with rd x0.
@@ -42,6 +42,12 @@ static inline void tell_given_back(void *block) { __asm__ volatile("sltu x0, %0,
 /* So many bytes from here on are no block's. */
 static inline void tell_unowned(void *from, size_t bytes) {
     __asm__ volatile("sltu x0, %0, %1" : : "r"(from), "r"(bytes) : "memory");
+}
+
+/* What a block has after the last word of these bytes is nobody's. Told while it is given, that is what nothing was stored to. */
+static inline void tell_rest(void *block, size_t bytes, size_t has) {
+    size_t whole = bytes + -bytes % sizeof(uint32_t);
+    if (has > whole) tell_unowned((char *)block + whole, has - whole);
 }
 
 #endif
