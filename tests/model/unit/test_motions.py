@@ -11,7 +11,7 @@ from model.assembler import STOP, image_of
 from model.devices import MemoryDisk
 from model.layout import format_disk
 from model.lines import serve_disk
-from model.motions import (BEGIN, END, Stops, backward, end_of_steps, named, named_instead, next_step, onward, own_step, stepped,
+from model.motions import (BEGIN, END, Stops, backward, before_end, end_of_steps, named, named_instead, next_step, onward, own_step, stepped,
                            stepped_back, text_of_stop, thread_of_stop, threads_at, who_ended)
 from model.stretches import Recording
 from model.stubs import monitor
@@ -223,6 +223,10 @@ class Motions(unittest.TestCase):
         for status, known, wanted in [(Status.FAULTED, [], 8), (Status.FAULTED, steps, 8), (Status.EXITED, [], None), (Status.EXITED, steps, 3),
                                       (Status.RUNNING, steps, None)]:
             self.assertEqual(who_ended(SimpleNamespace(status=status, fault_thread=8), known), wanted)
+
+    def test_before_end(self):
+        """Who ended a program is named at the end of its history alone, and where somebody is known."""
+        self.assertEqual([before_end(*asked) for asked in ((END, 2, 1), (END, None, 1), (BEGIN, 2, 1))], [2, 1, 1])
 
     def test_limits(self):
         """Of events with 3, 0, 2 and 5 steps from event 1 on; one without steps counts for one."""
