@@ -146,6 +146,11 @@ WRONG = {
         ("self.words[access.word] = ALL_ONES, self.giving.memory", "self.words[access.word] = unknown_after_store(self.words.get(access.word, KNOWN)[0], access.address, "
                                                                    "access.length, ALL_ONES), self.giving.memory"),
         ("self.words[access.word] = ALL_ONES, self.giving.memory", "self.words[access.word] = ALL_ONES, value.memory or self.giving.memory"),
+        ("if not is_given and self.giving and self.giving.thread == thread_id:", "if not is_given and self.giving:"),
+        ("if not is_given and self.giving and self.giving.thread == thread_id:", "if self.giving and self.giving.thread == thread_id:"),
+        ("self.make_unknown(machine, first // 4, length // 4, self.giving.memory)", "self.make_unknown(machine, first // 4 + 1, length // 4, self.giving.memory)"),
+        ("self.make_unknown(machine, first // 4, length // 4, self.giving.memory)", "self.make_unknown(machine, first // 4, (length + 3) // 4, self.giving.memory)"),
+        ("        self.note_nobodys(machine, thread_id)\n", ""),
         ("access.length, stored), memory if stored else was", "access.length, stored), memory or was"),
         ("access.length, stored), memory if stored else was", "access.length, stored), was or memory"),
         ("access.length, stored), memory if stored else was", "access.length, stored), memory if stored else self.giving and self.giving.memory"),
