@@ -1,5 +1,4 @@
 pub mod BehindLemmas
-pub mod CallerLemmas
 pub mod CellLemmas
 pub mod FoundLemmas
 pub mod OnlyLemmas
@@ -7,7 +6,6 @@ pub mod LawLemmas
 pub mod LeftLemmas
 pub mod ListLemmas
 pub mod PartLemmas
-pub mod ReplayLemmas
 pub mod ShadowLemmas
 pub mod SplitLemmas
 pub mod SufficeLemmas

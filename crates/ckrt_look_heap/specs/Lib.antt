@@ -3,7 +3,6 @@ pub mod Parts
 pub mod Within
 pub mod Notes
 pub mod Steps
-pub mod Moments
 pub mod Texts
 pub mod Again
 pub mod Recorded

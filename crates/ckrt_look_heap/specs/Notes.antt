@@ -18,7 +18,7 @@ use Rattle.ckrt_look_heap.specs.declared.block.Access.{Access}
 use Rattle.ckrt_look_heap.specs.declared.block.Block.{Block}
 use Rattle.ckrt_look_heap.specs.declared.block.Deed.{Deed}
 use Rattle.ckrt_look_heap.specs.declared.block.Deed.TheVariants as deed
-use Rattle.ckrt_look_heap.specs.declared.block.Moment.{Moment}
+use Rattle.ckrt_look_steps.specs.declared.moment.Moment.{Moment}
 use Rattle.ckrt_look_heap.specs.declared.block.Part.{Part}
 use Rattle.ckrt_look_heap.specs.declared.shadow.Note.{Note}
 use Rattle.ckrt_look_heap.specs.declared.shadow.Note.TheVariants as note

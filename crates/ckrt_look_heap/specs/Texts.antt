@@ -2,6 +2,7 @@
 use Rattle.std.specs.Prelude.{ℕ, ◌+◌, ◌-◌, ◌==◌, nat_le, min, if◌then◌else◌, List, [], ◌∷◌, ◌++◌, length, take, codes, decimal}
 use Rattle.std.specs.List.{flat_map}
 use Rattle.ckrt_inspect.specs.Texts.{hex_text}
+use Rattle.ckrt_look_steps.specs.Rows.{others_line, stretch_text, times_text}
 use Rattle.ckrt_look_heap.specs.declared.block.Access.{Access}
 use Rattle.ckrt_look_heap.specs.declared.block.Block.{Block}
 use Rattle.ckrt_look_heap.specs.declared.block.Cell.{Cell}
@@ -43,10 +44,6 @@ where_text d (cell.Given b) = given_text d
 where_text d (cell.GivenBack b m) = codes " in a block that was given back, "
 where_text d (cell.Ended b m) = codes " in a stack that has ended, "
 
--- `once`, `N times`
-abbrev pub times_text : ℕ → List ℕ
-times_text n = if n == 1 then codes "once" else decimal n ++ codes " times"
-
 -- `K+S thread T loads ADDRESS pc PC in no block, once`
 abbrev pub error_text : Finding → List ℕ
 error_text f =
@@ -54,16 +51,6 @@ error_text f =
 
 abbrev pub finding_line : Finding → List ℕ
 finding_line f = error_text f ++ codes "\n"
-
-abbrev pub others_text : ℕ → List ℕ
-others_text n = codes "and " ++ times_text n ++ codes " at other places\n"
-
-abbrev pub others_line : ℕ → List ℕ
-others_line n = if n == 0 then [] else others_text n
-
--- where it was looked: from behind so many events up to behind so many
-abbrev pub stretch_text : (word : List ℕ) → (begin end : ℕ) → List ℕ
-stretch_text word k l = (word ++ decimal k) ++ (codes " to " ++ decimal l)
 
 -- where there may be others
 abbrev pub elsewhere : (begin : ℕ) → List ℕ

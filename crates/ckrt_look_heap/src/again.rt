@@ -4,16 +4,15 @@ ghost use Rattle.std.specs.Io.KnownBytes.{Appends};
 ghost use Rattle.std.specs.List.{flat_map};
 ghost use Rattle.ckrt_inspect.specs.declared.fault.InspectFault.TheVariants.{OutOfMemory, Write as Writing};
 ghost use Rattle.ckrt_look_heap.specs.declared.block.Cell.TheVariants as cell;
-ghost use Rattle.ckrt_look_heap.specs.Again.{AreBehind, IsBehind, IsSound, address_of, back_line, back_text, block_line, block_text, by_text, cell_text, finding_text, left_text, made_text, replay_of, taken_text};
+ghost use Rattle.ckrt_look_steps.specs.Moments.{made_text};
+ghost use Rattle.ckrt_look_steps.specs.Replays.{IsBehind, IsSound, replay_of};
+ghost use Rattle.ckrt_look_heap.specs.Again.{AreBehind, address_of, back_line, back_text, block_line, cell_text, finding_text, left_text, taken_text};
 
-use crate::block::{Block, Cell, Moment};
-use crate::callers::write_callers;
+use crate::block::{Block, Cell};
 use crate::finding::Finding;
-use crate::moment::{write_address, write_position};
-use crate::replay::{Cursor, Source};
 use crate::texts::write_finding;
 use ckrt_inspect::InspectFault;
-use ckrt_look_calls::write_counted;
+use ckrt_look_steps::{Cursor, Moment, Source, write_by, write_made, write_taken_line};
 use std::alloc::{AllocError, Global};
 use std::io::{Result as Written, Write};
 
@@ -24,35 +23,13 @@ fn address_of(block: &Block) -> u32
     block.first.wrapping_mul(4).wrapping_add(4)
 }
 
-/// How many bytes of memory from where on.
-#[tactic(auto, using(ckrt_look_calls::proofs::AppendLemmas::appends_both))]
-fn write_block<W: Write>(out: &mut W, block: &Block) -> Written<()>
-    ensures { OnOk result
-        (Appends (W.contents out.old) (W.contents out.new) (block_text block.now)) }
-{
-    write_counted(out, b"    in a block of ", u64::from(block.bytes))?;
-    write_address(out, b" bytes from ", address_of(block))
-}
-
-/// Who did something, and where, behind a word.
-#[tactic(auto, using(ckrt_look_calls::proofs::AppendLemmas::appends_both))]
-fn write_by<W: Write>(out: &mut W, word: &[u8], moment: &Moment) -> Written<()>
-    ensures { OnOk result
-        (Appends (W.contents out.old) (W.contents out.new) (by_text word.now moment.now)) }
-{
-    write_position(out, word, moment.place)?;
-    write_counted(out, b" by thread ", u64::from(moment.thread))
-}
-
 /// The line of a block.
-#[tactic(auto, using(ckrt_look_calls::proofs::AppendLemmas::appends_both))]
 fn write_block_line<W: Write>(out: &mut W, block: &Block) -> Written<()>
     ensures { OnOk result
         (Appends (W.contents out.old) (W.contents out.new) (block_line block.now)) }
 {
-    write_block(out, block)?;
-    write_by(out, b" on, taken at ", &block.taken)?;
-    out.write_all(b"\n")
+    let bytes = u64::from(block.bytes);
+    write_taken_line(out, address_of(block), bytes, &block.taken)
 }
 
 /// The line of who gave it back.
@@ -63,30 +40,6 @@ fn write_back_line<W: Write>(out: &mut W, word: &[u8], moment: &Moment) -> Writt
 {
     write_by(out, word, moment)?;
     out.write_all(b"\n")
-}
-
-/// The callers of who did something.
-pub fn write_made<W: Write>(
-    alloc: Global,
-    source: &Source<'_>,
-    cursor: &mut Cursor,
-    moment: &Moment,
-    out: &mut W,
-) -> Result<(), InspectFault>
-    requires sound { IsSound (replay_of source.now) }
-    requires behind { IsBehind (replay_of source.now) cursor.old }
-    ensures written { OnOk result (Appends (W.contents out.old) (W.contents out.new)
-        (made_text moment.now (replay_of source.now))) }
-    ensures behind { OnOk result (IsBehind (replay_of source.now) cursor.new) }
-    ensures fault { IfErr result (λ e. (e ≡ OutOfMemory) ⊎ (e ≡ Writing)) }
-{
-    let Ok(machine) = cursor.machine_at(alloc, source, moment.place) else {
-        return Err(InspectFault::OutOfMemory);
-    };
-    match write_callers(out, moment, source.rules, &machine) {
-        Ok(()) => Ok(()),
-        Err(_) => Err(InspectFault::Write),
-    }
 }
 
 /// A block, and who took it.

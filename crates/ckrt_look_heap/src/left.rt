@@ -3,16 +3,17 @@ ghost use Rattle.std.specs.Prelude.{◌≡◌, ◌⊎◌, ◌++◌, IfErr, IfOk,
 ghost use Rattle.std.specs.Io.KnownBytes.{Appends};
 ghost use Rattle.std.specs.List.{flat_map};
 ghost use Rattle.ckrt_inspect.specs.declared.fault.InspectFault.TheVariants.{OutOfMemory, Write as Writing};
-ghost use Rattle.ckrt_look_heap.specs.Again.{IsSound, left_text, replay_of};
+ghost use Rattle.ckrt_look_steps.specs.Replays.{IsSound, replay_of};
+ghost use Rattle.ckrt_look_heap.specs.Again.{left_text};
 ghost use Rattle.ckrt_look_heap.specs.Shadow.{left_from, left_in};
 ghost use Rattle.ckrt_look_heap.specs.Texts.{blocks_text, bytes_of, counted_text, left_lines, more_text, sum_text};
 
 use crate::again::write_blocks;
 use crate::block::{Block, Cell};
-use crate::replay::Source;
 use crate::shadow::Shadow;
 use ckrt_inspect::InspectFault;
 use ckrt_look_calls::write_counted;
+use ckrt_look_steps::Source;
 use std::alloc::{AllocError, Global};
 use std::io::{Result as Written, Write};
 

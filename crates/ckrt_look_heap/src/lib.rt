@@ -7,22 +7,19 @@
 
 mod again;
 mod block;
-mod callers;
 mod finding;
 mod found;
 mod laws;
 mod left;
-mod moment;
 mod notes;
 mod parts;
 mod recorded;
-mod replay;
 mod shadow;
 mod texts;
 mod walk;
 
-pub use again::{write_back, write_made};
-pub use block::{Access, Block, Cell, Deed, Moment, Part};
+pub use again::write_back;
+pub use block::{Access, Block, Cell, Deed, Part};
 pub use finding::{FINDINGS, Finding};
 pub use laws::{
     example_is_told, given_back_blocks_are_told, given_blocks_are_used, nothing_is_left_out,
@@ -31,7 +28,6 @@ pub use laws::{
 pub use notes::{is_in_heap, watch_notes};
 pub use parts::PART_BYTES;
 pub use recorded::{shadow_for, write_errors};
-pub use replay::{Cursor, Source, copy_of};
 pub use shadow::{Note, Shadow};
-pub use texts::{write_error, write_others_line, write_times};
+pub use texts::write_error;
 pub use walk::{watch_end, watch_event};

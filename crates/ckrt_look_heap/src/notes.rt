@@ -6,11 +6,11 @@ ghost use Rattle.ckrt_look_heap.specs.declared.shadow.Note.TheVariants as note;
 ghost use Rattle.ckrt_look_heap.specs.Notes.{access_of, block_of, free_of, is_in_heap, moment_of, notes, of_instruction, told_by, unless_in_heap, unowned, use_at};
 ghost use Rattle.ckrt_look_heap.specs.Within.{noted_all};
 
-use crate::block::{Access, Block, Deed, Moment, Part};
+use crate::block::{Access, Block, Deed, Part};
 use crate::shadow::Shadow;
 use ckrt_calls::Tables;
 use ckrt_look_recording::{byte_count, fetched, may_access};
-use ckrt_look_steps::Stepping;
+use ckrt_look_steps::{Moment, Stepping};
 use ckrt_machine::Machine;
 use ckrt_rv32i::{AluOp, Instr, Size};
 use ckrt_thread::ThreadId;

@@ -4,10 +4,11 @@ ghost use Rattle.ckrt_look_heap.specs.declared.shadow.Note.TheVariants as note;
 ghost use Rattle.ckrt_look_heap.specs.Shadow.{few, freed_as, if_told, part_of, wrong};
 ghost use Rattle.ckrt_look_heap.specs.Within.{changes, fresh_within, is_full, noted_one, room_by_free, with_room, with_told};
 
-use crate::block::{Access, Block, Cell, Change, Moment, Part, is_begin, may_use};
+use crate::block::{Access, Block, Cell, Change, Part, is_begin, may_use};
 use crate::finding::Finding;
 use crate::found::Findings;
 use crate::parts::Parts;
+use ckrt_look_steps::Moment;
 use std::alloc::{AllocError, Global};
 use std::marker::Model;
 

@@ -1,11 +1,12 @@
 //! What was found, as text.
 ghost use Rattle.std.specs.Prelude.{◌≡◌, ◌++◌, codes, OnOk};
 ghost use Rattle.std.specs.Io.KnownBytes.{Appends};
-ghost use Rattle.ckrt_look_heap.specs.Texts.{access_text, elsewhere, error_text, finding_line, given_text, none_text, others_line, others_text, place_text, stretch_text, times_text, untold_text, verb, what_text, where_text};
+ghost use Rattle.ckrt_look_heap.specs.Texts.{access_text, elsewhere, error_text, finding_line, given_text, none_text, place_text, untold_text, verb, what_text, where_text};
 
 use crate::block::{Access, Cell, Deed};
 use crate::finding::Finding;
 use ckrt_look_calls::{write_counted, write_hex, write_number};
+use ckrt_look_steps::{write_stretch, write_times};
 use std::io::{Result, Write};
 
 /// Where something was done, and by whom.
@@ -74,19 +75,6 @@ fn where_text(deed: Deed, cell: &Cell) -> &'static [u8]
     }
 }
 
-/// Writes how often something was done: `once`, or `3 times`. It takes no memory.
-#[tactic(auto, using(ckrt_look_calls::proofs::AppendLemmas::appends_both))]
-pub fn write_times<W: Write>(out: &mut W, times: u64) -> Result<()>
-    ensures { OnOk result
-        (Appends (W.contents out.old) (W.contents out.new) (times_text times)) }
-{
-    if times == 1 {
-        return out.write_all(b"once");
-    }
-    write_number(out, times)?;
-    out.write_all(b" times")
-}
-
 /// What is wrong, and where it is.
 #[tactic(auto, using(ckrt_look_calls::proofs::AppendLemmas::appends_both))]
 fn write_wrong<W: Write>(out: &mut W, access: &Access, cell: &Cell) -> Result<()>
@@ -116,39 +104,6 @@ pub(crate) fn write_finding<W: Write>(out: &mut W, finding: &Finding) -> Result<
 {
     write_error(out, finding)?;
     out.write_all(b"\n")
-}
-
-/// How many errors there were at places for which no row was left.
-#[tactic(auto, using(ckrt_look_calls::proofs::AppendLemmas::appends_both))]
-fn write_others<W: Write>(out: &mut W, others: u64) -> Result<()>
-    ensures { OnOk result
-        (Appends (W.contents out.old) (W.contents out.new) (others_text others)) }
-{
-    out.write_all(b"and ")?;
-    write_times(out, others)?;
-    out.write_all(b" at other places\n")
-}
-
-/// The same, if there were some.
-#[tactic(auto, using(ckrt_look_calls::proofs::AppendLemmas::appends_none))]
-pub fn write_others_line<W: Write>(out: &mut W, others: u64) -> Result<()>
-    ensures { OnOk result
-        (Appends (W.contents out.old) (W.contents out.new) (others_line others)) }
-{
-    match others {
-        0 => Ok(()),
-        _ => write_others(out, others),
-    }
-}
-
-/// Where it was looked.
-#[tactic(auto, using(ckrt_look_calls::proofs::AppendLemmas::appends_both))]
-fn write_stretch<W: Write>(out: &mut W, word: &[u8], begin: u64, end: u64) -> Result<()>
-    ensures { OnOk result
-        (Appends (W.contents out.old) (W.contents out.new) (stretch_text word.now begin end)) }
-{
-    write_counted(out, word, begin)?;
-    write_counted(out, b" to ", end)
 }
 
 /// Where there may be others.

@@ -9,10 +9,11 @@ use Rattle.ckrt_look_clocks.specs.declared.lock.LockName.TheVariants.{Mutex, RwL
 use Rattle.ckrt_look_clocks.specs.declared.lock.Taking.{Taking}
 use Rattle.ckrt_look_clocks.specs.declared.operation.Place.{Place}
 use Rattle.ckrt_look_clocks.specs.LockHistories.{Ordered}
-use Rattle.ckrt_look_races.specs.declared.moment.Moment.{Moment}
-use Rattle.ckrt_look_races.specs.Again.{Replay, state_at}
-use Rattle.ckrt_look_races.specs.Moments.{callers_text, moment_text, position_text}
-use Rattle.ckrt_look_races.specs.Texts.{times_text}
+use Rattle.ckrt_look_steps.specs.declared.moment.Moment.{Moment}
+use Rattle.ckrt_look_steps.specs.Replays.{Replay}
+use Rattle.ckrt_look_steps.specs.Moments.{made_text, moment_text, position_text}
+use Rattle.ckrt_look_races.specs.Moments.{moment_of, place_of}
+use Rattle.ckrt_look_steps.specs.Rows.{times_text}
 
 -- `mutex ADDRESS`, `rwlock ADDRESS to read`, `rwlock ADDRESS to write`
 abbrev pub reading_text : (reads : Bool) → List ℕ
@@ -62,17 +63,17 @@ inversion_line x = cycle_text x ++ (count_text x.count ++ codes "\n")
 -- BENEATH IT: what each thread held, and who called as it took what the line says
 
 abbrev pub moment_at : Link → Moment
-moment_at l = record { place = l.taken.place; thread = l.thread }
+moment_at l = moment_of l.thread l.taken.place
 
 -- `    K+S thread T took LOCK pc PC from PC at K+S`
 abbrev pub took_text : Link → List ℕ
 took_text l = moment_text (moment_at l) ++ doing_text (codes " took ") l.held
 
 abbrev pub took_line : Link → List ℕ
-took_line l = took_text l ++ (position_text (codes " at ") l.held.place ++ codes "\n")
+took_line l = took_text l ++ (position_text (codes " at ") (place_of l.held.place) ++ codes "\n")
 
 abbrev pub callers_at : Link → Replay → List ℕ
-callers_at l r = callers_text (moment_at l) r.rules (state_at l.taken.place r)
+callers_at l r = made_text (moment_at l) r
 
 abbrev pub link_lines : Replay → Option Link → List ℕ
 link_lines r None = []

@@ -8,7 +8,8 @@ use Rattle.ckrt_look_steps.specs.Rooms.{slots_in, words_of}
 use Rattle.ckrt_look_clocks.specs.Detection.{Found, behind_all, fresh}
 use Rattle.ckrt_look_clocks.specs.LockHistories.{Ordered}
 use Rattle.ckrt_look_clocks.specs.Within.{Detected, fresh_within, is_full, noted_all}
-use Rattle.ckrt_look_races.specs.Again.{Replay, race_text}
+use Rattle.ckrt_look_steps.specs.Replays.{Replay}
+use Rattle.ckrt_look_races.specs.Again.{race_text}
 use Rattle.ckrt_look_races.specs.Holders.{HOLDERS}
 use Rattle.ckrt_look_races.specs.Inversions.{inversion_text, orders_text}
 use Rattle.ckrt_look_races.specs.Steps.{of_events}

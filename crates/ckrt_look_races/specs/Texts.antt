@@ -2,6 +2,7 @@
 use Rattle.std.specs.Prelude.{ℕ, ◌==◌, Bool, true, false, if◌then◌else◌, List, [], ◌∷◌, ◌++◌, codes, decimal}
 use Rattle.std.specs.List.{flat_map}
 use Rattle.ckrt_inspect.specs.Texts.{hex_text}
+use Rattle.ckrt_look_steps.specs.Rows.{others_line, stretch_text, times_text}
 use Rattle.ckrt_look_clocks.specs.declared.operation.Access.{Access}
 use Rattle.ckrt_look_clocks.specs.declared.pair.Pair.{Pair}
 use Rattle.ckrt_look_clocks.specs.Detection.{Found}
@@ -26,25 +27,11 @@ what_text a = verb a.is_store a.is_atomic ++ hex_text a.address ++ codes " pc " 
 abbrev pub access_text : Access → List ℕ
 access_text a = place_text a ++ what_text a
 
--- `once`, `N times`
-abbrev pub times_text : ℕ → List ℕ
-times_text n = if n == 1 then codes "once" else decimal n ++ codes " times"
-
 abbrev pub both_text : Pair → List ℕ
 both_text p = access_text p.first ++ codes ", " ++ access_text p.second
 
 abbrev pub pair_line : Pair → List ℕ
 pair_line p = both_text p ++ codes ", " ++ times_text p.count ++ codes "\n"
-
-abbrev pub others_text : ℕ → List ℕ
-others_text n = codes "and " ++ times_text n ++ codes " at other places\n"
-
-abbrev pub others_line : ℕ → List ℕ
-others_line n = if n == 0 then [] else others_text n
-
--- where it was looked: from behind so many events up to behind so many
-abbrev pub stretch_text : (begin end : ℕ) → List ℕ
-stretch_text k l = codes "no races in events " ++ decimal k ++ (codes " to " ++ decimal l)
 
 -- where there may be others
 abbrev pub elsewhere : (begin : ℕ) → List ℕ
@@ -53,7 +40,7 @@ elsewhere k =
     else codes "events before these were not looked at, and another schedule may have some\n"
 
 abbrev pub none_text : (begin end : ℕ) → List ℕ
-none_text k l = stretch_text k l ++ codes " of this schedule; " ++ elsewhere k
+none_text k l = stretch_text (codes "no races in events ") k l ++ codes " of this schedule; " ++ elsewhere k
 
 -- where each pair has a text
 abbrev pub text_of : (Pair → List ℕ) → (begin end : ℕ) → List Pair → ℕ → List ℕ

@@ -3,36 +3,23 @@ ghost use Rattle.std.specs.Prelude.{◌≡◌, ◌⊎◌, IfErr, IfOk, OnOk, Som
 ghost use Rattle.std.specs.Io.KnownBytes.{Appends};
 ghost use Rattle.std.specs.List.{flat_map};
 ghost use Rattle.ckrt_inspect.specs.declared.fault.InspectFault.TheVariants.{OutOfMemory, Write as Writing};
-ghost use Rattle.ckrt_look_races.specs.Again.{AreBehind, IsBehind, IsSound, access_text, accesses_text, begin_of, block_line, block_text, memory_text, moment_of, race_text, replay_of, size_of, taken_at, taken_text, taking_text};
+ghost use Rattle.ckrt_look_steps.specs.Replays.{IsBehind, IsSound, replay_of};
+ghost use Rattle.ckrt_look_races.specs.Again.{AreBehind, access_text, accesses_text, begin_of, block_line, memory_text, race_text, size_of, taken_at};
 
-use crate::callers::{write_access_lines, write_callers};
-use crate::moment::{Moment, write_address, write_position};
-use crate::replay::{Cursor, Source};
+use crate::held::write_access_lines;
+use crate::moment::moment_of;
 use crate::texts::write_pair;
 use ckrt_inspect::InspectFault;
-use ckrt_look_calls::write_counted;
 use ckrt_look_clocks::{Access, Block, Pair};
+use ckrt_look_steps::{Cursor, Moment, Source, write_made, write_taken_line};
 use std::alloc::{AllocError, Global};
 use std::io::{Result as Written, Write};
-
-/// The moment of an access.
-fn moment_of(access: &Access) -> Moment
-    ensures { result ≡ moment_of access.now }
-{
-    Moment {
-        place: access.place,
-        thread: access.thread,
-    }
-}
 
 /// When memory was taken, and by whom.
 fn taken_at(block: &Block) -> Moment
     ensures { result ≡ taken_at block.now }
 {
-    Moment {
-        place: block.place,
-        thread: block.thread,
-    }
+    moment_of(block.thread, block.place)
 }
 
 /// How many bytes a block has.
@@ -49,35 +36,12 @@ fn begin_of(block: &Block) -> u32
     block.first.wrapping_mul(4).wrapping_add(4)
 }
 
-/// How many bytes of memory from where on.
-#[tactic(auto, using(ckrt_look_calls::proofs::AppendLemmas::appends_both))]
-fn write_block<W: Write>(out: &mut W, block: &Block) -> Written<()>
-    ensures { OnOk result
-        (Appends (W.contents out.old) (W.contents out.new) (block_text block.now)) }
-{
-    write_counted(out, b"    in a block of ", size_of(block))?;
-    write_address(out, b" bytes from ", begin_of(block))
-}
-
-/// Where it was taken, and by whom.
-#[tactic(auto, using(ckrt_look_calls::proofs::AppendLemmas::appends_both))]
-fn write_taken<W: Write>(out: &mut W, block: &Block) -> Written<()>
-    ensures { OnOk result
-        (Appends (W.contents out.old) (W.contents out.new) (taken_text block.now)) }
-{
-    write_position(out, b" on, taken at ", block.place)?;
-    write_counted(out, b" by thread ", u64::from(block.thread))
-}
-
 /// The line of memory that was given anew.
-#[tactic(auto, using(ckrt_look_calls::proofs::AppendLemmas::appends_both))]
 fn write_block_line<W: Write>(out: &mut W, block: &Block) -> Written<()>
     ensures { OnOk result
         (Appends (W.contents out.old) (W.contents out.new) (block_line block.now)) }
 {
-    write_block(out, block)?;
-    write_taken(out, block)?;
-    out.write_all(b"\n")
+    write_taken_line(out, begin_of(block), size_of(block), &taken_at(block))
 }
 
 /// The locks and the callers of the thread of an access.
@@ -95,34 +59,11 @@ fn write_access<W: Write>(
     ensures behind { OnOk result (IsBehind (replay_of source.now) cursor.new) }
     ensures fault { IfErr result (λ e. (e ≡ OutOfMemory) ⊎ (e ≡ Writing)) }
 {
-    let Ok(machine) = cursor.machine_at(alloc, source, access.place) else {
+    let moment = moment_of(access.thread, access.place);
+    let Ok(machine) = cursor.machine_at(alloc, source, moment.place) else {
         return Err(InspectFault::OutOfMemory);
     };
-    match write_access_lines(out, &moment_of(access), source.rules, &machine) {
-        Ok(()) => Ok(()),
-        Err(_) => Err(InspectFault::Write),
-    }
-}
-
-/// The callers of who took memory.
-fn write_taking<W: Write>(
-    alloc: Global,
-    source: &Source<'_>,
-    cursor: &mut Cursor,
-    block: &Block,
-    out: &mut W,
-) -> Result<(), InspectFault>
-    requires sound { IsSound (replay_of source.now) }
-    requires behind { IsBehind (replay_of source.now) cursor.old }
-    ensures written { OnOk result (Appends (W.contents out.old) (W.contents out.new)
-        (taking_text block.now (replay_of source.now))) }
-    ensures behind { OnOk result (IsBehind (replay_of source.now) cursor.new) }
-    ensures fault { IfErr result (λ e. (e ≡ OutOfMemory) ⊎ (e ≡ Writing)) }
-{
-    let Ok(machine) = cursor.machine_at(alloc, source, block.place) else {
-        return Err(InspectFault::OutOfMemory);
-    };
-    match write_callers(out, &taken_at(block), source.rules, &machine) {
+    match write_access_lines(out, &moment, source.rules, &machine) {
         Ok(()) => Ok(()),
         Err(_) => Err(InspectFault::Write),
     }
@@ -147,7 +88,7 @@ fn write_taken_block<W: Write>(
     let Ok(()) = write_block_line(out, block) else {
         return Err(InspectFault::Write);
     };
-    write_taking(alloc, source, cursor, block, out)
+    write_made(alloc, source, cursor, &taken_at(block), out)
 }
 
 /// The memory that has the word of a race, and who took it.

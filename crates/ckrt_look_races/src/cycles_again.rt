@@ -3,16 +3,15 @@ ghost use Rattle.std.specs.Prelude.{◌≡◌, ◌⊎◌, ◌+◌, ◌<◌, ◌^
 ghost use Rattle.std.specs.Io.KnownBytes.{Appends};
 ghost use Rattle.std.specs.List.{flat_map};
 ghost use Rattle.ckrt_inspect.specs.declared.fault.InspectFault.TheVariants.{OutOfMemory, Write as Writing};
-ghost use Rattle.ckrt_look_races.specs.Again.{IsBehind, IsSound, replay_of};
+ghost use Rattle.ckrt_look_steps.specs.Replays.{IsBehind, IsSound, replay_of};
 ghost use Rattle.ckrt_look_races.specs.Inversions.{callers_at, inversion_text, link_lines, orders_text, rows_text};
 
-use crate::callers::write_callers;
 use crate::inversions::{
     moment_at, write_full, write_inversion_line, write_more_line, write_no_cycle, write_took_line,
 };
-use crate::replay::{Cursor, Source};
 use ckrt_inspect::InspectFault;
 use ckrt_look_clocks::{Detector, Inversion, Link};
+use ckrt_look_steps::{Cursor, Source, write_made};
 use std::alloc::Global;
 use std::io::Write;
 
@@ -31,13 +30,7 @@ fn write_callers_at<W: Write>(
     ensures behind { OnOk result (IsBehind (replay_of source.now) cursor.new) }
     ensures fault { IfErr result (λ e. (e ≡ OutOfMemory) ⊎ (e ≡ Writing)) }
 {
-    let Ok(machine) = cursor.machine_at(alloc, source, link.taken.place) else {
-        return Err(InspectFault::OutOfMemory);
-    };
-    match write_callers(out, &moment_at(link), source.rules, &machine) {
-        Ok(()) => Ok(()),
-        Err(_) => Err(InspectFault::Write),
-    }
+    write_made(alloc, source, cursor, &moment_at(link), out)
 }
 
 /// What a thread held, and who called.

@@ -2,11 +2,13 @@
 ghost use Rattle.std.specs.Prelude.{◌≡◌, OnOk};
 ghost use Rattle.std.specs.List.{flat_map, list_any};
 ghost use Rattle.std.specs.Io.KnownBytes.{Appends};
-ghost use Rattle.ckrt_look_races.specs.Moments.{held_lines, holds_any, holds_mutex, holds_rwlock, mutex_line, none_held, rwlock_line, way_text};
+ghost use Rattle.ckrt_look_races.specs.Moments.{access_lines, held_lines, holds_any, holds_mutex, holds_rwlock, mutex_line, none_held, rwlock_line, way_text};
 
 use crate::kit::is_of_kit;
-use crate::moment::{Moment, write_moment, write_moment_line};
 use ckrt_calls::Tables;
+use ckrt_look_recording::Rule;
+use ckrt_look_steps::{Moment, write_callers, write_moment, write_moment_line};
+use ckrt_machine::Machine;
 use ckrt_mutex::Mutex;
 use ckrt_objects::Entry;
 use ckrt_rwlock::RwLock;
@@ -125,11 +127,27 @@ fn write_none_held<W: Write>(out: &mut W, moment: &Moment, holds: bool) -> Resul
 
 /// The locks that the thread of a moment holds.
 #[tactic(auto, using(ckrt_look_calls::proofs::AppendLemmas::appends_both))]
-pub(crate) fn write_held<W: Write>(out: &mut W, moment: &Moment, tables: &Tables) -> Result<()>
+fn write_held<W: Write>(out: &mut W, moment: &Moment, tables: &Tables) -> Result<()>
     ensures { OnOk result
         (Appends (W.contents out.old) (W.contents out.new) (held_lines moment.now tables.now)) }
 {
     write_mutexes(out, moment, tables.mutexes.rows().as_slice())?;
     write_rwlocks(out, moment, tables.rwlocks.rows())?;
     write_none_held(out, moment, holds_any(moment.thread, tables))
+}
+
+/// The locks and the callers of the thread of a moment.
+#[tactic(auto, using(ckrt_look_calls::proofs::AppendLemmas::appends_both))]
+pub(crate) fn write_access_lines<W: Write>(
+    out: &mut W,
+    moment: &Moment,
+    rules: &[Rule],
+    machine: &Machine,
+) -> Result<()>
+    ensures { OnOk result
+        (Appends (W.contents out.old) (W.contents out.new)
+        (access_lines moment.now rules.now machine.now.state)) }
+{
+    write_held(out, moment, machine.tables())?;
+    write_callers(out, moment, rules, machine)
 }

@@ -4,12 +4,13 @@ ghost use Rattle.std.specs.List.{flat_map};
 ghost use Rattle.std.specs.Io.KnownBytes.{Appends};
 ghost use Rattle.ckrt_inspect.specs.Texts.{hex_text};
 ghost use Rattle.ckrt_look_races.specs.Inversions.{another, at_text, call_text, count_text, cycle_text, doing_text, full_text, inversion_line, link_piece, link_text, lock_text, moment_at, more_line, more_text, no_cycle_text, reading_text, span_text, taking_text, took_line, took_text, who_text};
-ghost use Rattle.ckrt_look_races.specs.Moments.{position_text};
+ghost use Rattle.ckrt_look_races.specs.Moments.{place_of};
+ghost use Rattle.ckrt_look_steps.specs.Moments.{position_text};
 
-use crate::moment::{Moment, write_address, write_moment, write_position};
-use crate::texts::write_times;
+use crate::moment::{moment_of, place_of};
 use ckrt_look_calls::{write_counted, write_number};
 use ckrt_look_clocks::{Inversion, Link, LockName, Place, Taking};
+use ckrt_look_steps::{Moment, write_address, write_moment, write_position, write_times};
 use std::io::{Result, Write};
 
 /// Whether a read-write lock is taken to read, or to write.
@@ -174,10 +175,7 @@ pub(crate) fn write_inversion_line<W: Write>(out: &mut W, inversion: &Inversion)
 pub(crate) fn moment_at(link: &Link) -> Moment
     ensures { result ≡ moment_at link.now }
 {
-    Moment {
-        place: link.taken.place,
-        thread: link.thread,
-    }
+    moment_of(link.thread, link.taken.place)
 }
 
 /// What it held then.
@@ -195,9 +193,9 @@ fn write_took<W: Write>(out: &mut W, link: &Link) -> Result<()>
 fn write_took_at<W: Write>(out: &mut W, place: Place) -> Result<()>
     ensures { OnOk result
         (Appends (W.contents out.old) (W.contents out.new)
-        (position_text (codes " at ") place ++ codes "\n")) }
+        (position_text (codes " at ") (place_of place) ++ codes "\n")) }
 {
-    write_position(out, b" at ", place)?;
+    write_position(out, b" at ", place_of(place))?;
     out.write_all(b"\n")
 }
 

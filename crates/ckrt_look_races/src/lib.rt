@@ -7,7 +7,6 @@
 
 mod accesses;
 mod again;
-mod callers;
 mod calls;
 mod cycles_again;
 mod held;
@@ -20,7 +19,6 @@ mod looking;
 mod moment;
 mod orders;
 mod recorded;
-mod replay;
 mod texts;
 mod walk;
 

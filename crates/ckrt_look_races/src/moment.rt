@@ -1,65 +1,26 @@
-//! The moment of an access, and lines that tell of it.
-ghost use Rattle.std.specs.Prelude.{◌≡◌, ◌++◌, OnOk};
-ghost use Rattle.std.specs.Io.KnownBytes.{Appends};
-ghost use Rattle.ckrt_inspect.specs.Texts.{hex_text};
-ghost use Rattle.ckrt_look_races.specs.Moments.{moment_line, moment_text, position_text};
+//! The moments of a detector, as all looks have them.
+ghost use Rattle.std.specs.Prelude.{◌≡◌};
+ghost use Rattle.ckrt_look_races.specs.Moments.{moment_of, place_of};
 
-use ckrt_look_calls::{write_counted, write_hex};
-use ckrt_look_clocks::Place;
-use ckrt_thread::ThreadId;
-use std::io::{Result, Write};
+use ckrt_look_calls::Place;
+use ckrt_look_steps::Moment;
 
-/// A thread that is about to make a step, and where.
-#[derive(Clone, Copy)]
-pub(crate) struct Moment {
-    pub(crate) place: Place,
-    pub(crate) thread: ThreadId,
+/// A place of a detector.
+pub(crate) fn place_of(place: ckrt_look_clocks::Place) -> Place
+    ensures { result ≡ place_of place }
+{
+    Place {
+        event: place.event,
+        step: place.step,
+    }
 }
 
-/// A place behind a word.
-#[tactic(auto, using(ckrt_look_calls::proofs::AppendLemmas::appends_both))]
-pub(crate) fn write_position<W: Write>(out: &mut W, word: &[u8], place: Place) -> Result<()>
-    ensures { OnOk result
-        (Appends (W.contents out.old) (W.contents out.new) (position_text word.now place)) }
+/// A thread at such a place.
+pub(crate) fn moment_of(thread: u8, place: ckrt_look_clocks::Place) -> Moment
+    ensures { result ≡ moment_of thread place }
 {
-    write_counted(out, word, place.event)?;
-    write_counted(out, b"+", u64::from(place.step))
-}
-
-/// Which thread, and where.
-#[tactic(auto, using(ckrt_look_calls::proofs::AppendLemmas::appends_both))]
-pub(crate) fn write_moment<W: Write>(out: &mut W, moment: &Moment) -> Result<()>
-    ensures { OnOk result
-        (Appends (W.contents out.old) (W.contents out.new) (moment_text moment.now)) }
-{
-    write_position(out, b"    ", moment.place)?;
-    write_counted(out, b" thread ", u64::from(moment.thread))
-}
-
-/// A word, and an address behind it.
-#[tactic(auto, using(ckrt_look_calls::proofs::AppendLemmas::appends_both))]
-pub(crate) fn write_address<W: Write>(out: &mut W, word: &[u8], address: u32) -> Result<()>
-    ensures { OnOk result
-        (Appends (W.contents out.old) (W.contents out.new) (word.now ++ hex_text address)) }
-{
-    out.write_all(word)?;
-    write_hex(out, address)
-}
-
-/// A line that tells an address.
-#[tactic(auto, using(ckrt_look_calls::proofs::AppendLemmas::appends_both))]
-pub(crate) fn write_moment_line<W: Write>(
-    out: &mut W,
-    moment: &Moment,
-    word: &[u8],
-    address: u32,
-    tail: &[u8],
-) -> Result<()>
-    ensures { OnOk result
-        (Appends (W.contents out.old) (W.contents out.new)
-        (moment_line moment.now word.now address tail.now)) }
-{
-    write_moment(out, moment)?;
-    write_address(out, word, address)?;
-    out.write_all(tail)
+    Moment {
+        place: place_of(place),
+        thread,
+    }
 }

@@ -1,10 +1,12 @@
 //! What was found, as text.
 ghost use Rattle.std.specs.Prelude.{◌≡◌, OnOk};
 ghost use Rattle.std.specs.Io.KnownBytes.{Appends};
-ghost use Rattle.ckrt_look_races.specs.Texts.{access_text, both_text, elsewhere, none_text, others_line, others_text, pair_line, place_text, stretch_text, times_text, verb, what_text};
+ghost use Rattle.ckrt_look_steps.specs.Rows.{others_line, others_text, stretch_text, times_text};
+ghost use Rattle.ckrt_look_races.specs.Texts.{access_text, both_text, elsewhere, none_text, pair_line, place_text, verb, what_text};
 
 use ckrt_look_calls::{write_counted, write_hex, write_number};
 use ckrt_look_clocks::{Access, Pair};
+use ckrt_look_steps::{write_stretch, write_times};
 use std::io::{Result, Write};
 
 /// Where an access was made, and by whom.
@@ -52,19 +54,6 @@ fn write_access<W: Write>(out: &mut W, access: &Access) -> Result<()>
     write_what(out, access)
 }
 
-/// How often.
-#[tactic(auto, using(ckrt_look_calls::proofs::AppendLemmas::appends_both))]
-pub(crate) fn write_times<W: Write>(out: &mut W, times: u64) -> Result<()>
-    ensures { OnOk result
-        (Appends (W.contents out.old) (W.contents out.new) (times_text times)) }
-{
-    if times == 1 {
-        return out.write_all(b"once");
-    }
-    write_number(out, times)?;
-    out.write_all(b" times")
-}
-
 /// Writes the two accesses of a pair. It takes no memory.
 #[tactic(auto, using(ckrt_look_calls::proofs::AppendLemmas::appends_both))]
 pub fn write_both<W: Write>(out: &mut W, pair: &Pair) -> Result<()>
@@ -88,39 +77,6 @@ pub(crate) fn write_pair<W: Write>(out: &mut W, pair: &Pair) -> Result<()>
     out.write_all(b"\n")
 }
 
-/// How often accesses raced for whose places no row was left.
-#[tactic(auto, using(ckrt_look_calls::proofs::AppendLemmas::appends_both))]
-fn write_others<W: Write>(out: &mut W, others: u64) -> Result<()>
-    ensures { OnOk result
-        (Appends (W.contents out.old) (W.contents out.new) (others_text others)) }
-{
-    out.write_all(b"and ")?;
-    write_times(out, others)?;
-    out.write_all(b" at other places\n")
-}
-
-/// The same, if they did.
-#[tactic(auto, using(ckrt_look_calls::proofs::AppendLemmas::appends_none))]
-pub(crate) fn write_others_line<W: Write>(out: &mut W, others: u64) -> Result<()>
-    ensures { OnOk result
-        (Appends (W.contents out.old) (W.contents out.new) (others_line others)) }
-{
-    match others {
-        0 => Ok(()),
-        _ => write_others(out, others),
-    }
-}
-
-/// Where it was looked.
-#[tactic(auto, using(ckrt_look_calls::proofs::AppendLemmas::appends_both))]
-fn write_stretch<W: Write>(out: &mut W, begin: u64, end: u64) -> Result<()>
-    ensures { OnOk result
-        (Appends (W.contents out.old) (W.contents out.new) (stretch_text begin end)) }
-{
-    write_counted(out, b"no races in events ", begin)?;
-    write_counted(out, b" to ", end)
-}
-
 /// Where there may be others.
 fn elsewhere(begin: u64) -> &'static [u8]
     ensures { result.now ≡ elsewhere begin }
@@ -139,7 +95,7 @@ pub(crate) fn write_none<W: Write>(out: &mut W, begin: u64, end: u64) -> Result<
     ensures { OnOk result
         (Appends (W.contents out.old) (W.contents out.new) (none_text begin end)) }
 {
-    write_stretch(out, begin, end)?;
+    write_stretch(out, b"no races in events ", begin, end)?;
     out.write_all(b" of this schedule; ")?;
     out.write_all(elsewhere(begin))
 }

@@ -1,3 +1,6 @@
 pub mod Steppings
 pub mod Walks
 pub mod Rooms
+pub mod Replays
+pub mod Moments
+pub mod Rows
