@@ -44,7 +44,8 @@ static inline void tell_unowned(void *from, size_t bytes) {
     __asm__ volatile("sltu x0, %0, %1" : : "r"(from), "r"(bytes) : "memory");
 }
 
-/* What a block has after the last word of these bytes is nobody's. Told while it is given, that is what nothing was stored to. */
+/* What a block has after the last word of these bytes is nobody's. Where that is told while the block is given, it counts as never
+ * stored. */
 static inline void tell_rest(void *block, size_t bytes, size_t has) {
     size_t whole = bytes + -bytes % sizeof(uint32_t);
     if (has > whole) tell_unowned((char *)block + whole, has - whole);

@@ -10,6 +10,7 @@ from dataclasses import dataclass, field
 from pathlib import Path
 from random import Random
 
+from cases.beside import BesideCase, difference_of_beside
 from cases.checked import CheckedCase, difference_of_checked
 from cases.debugged import DebuggedCase, difference_of_debugged
 from cases.drives import DrivesCase, difference_of_drives
@@ -343,6 +344,7 @@ OF_DISK_COUNTED = {LivesCase: difference_of_stops, TracedCase: difference_of_fat
 OF_FOLDER_COUNTED = {
     Case: difference_of_lives, HaltsCase: difference_of_halts, InputsCase: difference_of_inputs, MixedCase: difference_of_mixed,
     DrivesCase: difference_of_drives, ImagesCase: difference_of_images, SchedulesCase: difference_of_schedules,
+    BesideCase: difference_of_beside,
 }
 
 

@@ -5,10 +5,10 @@ import re
 from shared.crates import listed
 from svg import Picture
 
-WIDTH, EDGE, GAP, HEAD = 960, 10, 36, 24
+WIDTH, EDGE, GAP, HEAD = 1200, 10, 36, 24
 BOX, HIGH, COLUMN, ROW = 112, 24, 128, 32
 FILLS = {"processor": "#e8eef7", "threads": "#dbe7f6", "machine": "#cfdff4", "storage": "#fce5cd", "running": "#efe3f5", "look": "#e2f0d9",
-         "gdb": "#d9ead3", "hunt": "#d0e4c8", "cli": "#fff2cc"}
+         "history": "#ddeed6", "gdb": "#d9ead3", "hunt": "#d0e4c8", "cli": "#fff2cc"}
 LEFT_OUT = "test"  # what only looks
 
 

@@ -1,4 +1,4 @@
-"""Reads disks by examples/read_disk.py, which was written from the page on the format alone."""
+"""Reads disks and histories by examples/read_disk.py, which was written from the pages on their forms alone."""
 import contextlib
 import io
 import re
@@ -32,3 +32,14 @@ def recovered(disk):
         used = read_disk.area_in_use(headers)
         headers[used].check()
         return read_disk.print_journal(disk, config, used, headers[used].version, headers[used].events), headers[used].output_offset
+
+
+def history(data):
+    """Of the bytes of a history: how many events came before its first one, the lines of its events, and how many bytes it takes.
+
+    It raises read_disk.Fault where they are none.
+    """
+    text = io.StringIO()
+    with contextlib.redirect_stdout(text):
+        first, _, length = read_disk.print_history(data)
+    return first, re.findall(r"^    \d+ (.*)$", text.getvalue(), re.MULTILINE), length

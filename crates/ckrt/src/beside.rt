@@ -3,7 +3,7 @@
 //! Names of an image have to be of that very image. Those of a disk only help to read: where they can't be used, that is said, and the job
 //! is done without them.
 use ckrt_cli_names::{Names, NamesFault, SIZE_LIMIT};
-use ckrt_cli_words::{DriveJob, Job};
+use ckrt_cli_words::{DriveJob, HistoryJob, Job};
 use ckrt_disk::MemoryDisk;
 use ckrt_stored::{ProgramNote, read_note};
 use sha2::{Digest, Sha256};
@@ -256,9 +256,28 @@ fn unusable<'a>(alloc: Global, disk: &'a str, trouble: Trouble) -> Beside<'a> {
     }
 }
 
-/// What a disk notes of its program. One that can't be read is as one that notes nothing: the job itself will say why.
+/// The name of a history, from byte 8 of its front on (docs/HISTORIES.md).
+const HISTORY: &[u8] = b"CKRTHIST";
+
+/// What the front of a history says of its program, as its disk noted that. Zeros are no note.
+fn note_of_history(front: &[u8]) -> Option<ProgramNote> {
+    if front.get(8..16)? != HISTORY {
+        return None;
+    }
+    let digest = *front.get(32..64)?.first_chunk::<32>()?;
+    let bytes = u64::from_le_bytes(*front.get(64..72)?.first_chunk::<8>()?);
+    if bytes == 0 {
+        return None;
+    }
+    Some(ProgramNote { digest, bytes })
+}
+
+/// What a disk or a history notes of its program. One that can't be read is as one that notes nothing: the job itself will say why.
 fn note_of_disk<R: Files<File = File>>(rt: &R, alloc: Global, disk: &str) -> Option<ProgramNote> {
     let front = read_front(rt, alloc, disk, FRONT).ok()?;
+    if let Some(note) = note_of_history(&front) {
+        return Some(note);
+    }
     let mut disk = MemoryDisk::new(alloc, front).ok()?;
     read_note(&mut disk).ok()?
 }
@@ -318,6 +337,28 @@ pub fn reported(alloc: Global, beside: Beside<'_>) -> Beside<'_> {
     }
 }
 
+/// The names that a history gets of its disk, where that has some. Nothing is printed by them.
+fn of_history<'a, R: Files<File = File>>(
+    rt: &R,
+    alloc: Global,
+    job: &HistoryJob<'a>,
+) -> Beside<'a> {
+    let names = match job.disk {
+        Some(disk) => names_of_disk(rt, alloc, disk),
+        None => Ok(None),
+    };
+    let gift = match names {
+        Ok(Some(names)) => copy_of(alloc, &names).ok(),
+        _ => None,
+    };
+    Beside {
+        printed: Names::none(alloc),
+        reported: Names::none(alloc),
+        unused: None,
+        gift,
+    }
+}
+
 /// The names for a drive, whose end is reported: those of its disk, or of the image that a missing one is made of.
 fn of_drive<'a, R: Files<File = File>>(
     rt: &R,
@@ -346,6 +387,7 @@ pub fn before<'a, R: Files<File = File>>(
         Job::Hunt(job) => of_image(rt, alloc, job.image),
         Job::Format(job) => Ok(reported(alloc, of_image(rt, alloc, job.image)?)),
         Job::Drive(job) => of_drive(rt, alloc, job),
+        Job::History(job) => Ok(of_history(rt, alloc, job)),
         _ => Ok(none(alloc)),
     }
 }

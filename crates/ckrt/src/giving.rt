@@ -1,4 +1,4 @@
-//! Names that a disk gets with its image. What has their path and isn't a file of names stays, and so does each other file of the job.
+//! Names that a disk gets with its image, and a history of its disk. What has their path and isn't a file of names stays, and so does each other file of the job.
 use crate::beside::{is_missing, names_path, read_front};
 use ckrt_cli_words::{DriveJob, HuntJob, Job};
 use ckrt_hunt_schedules::MOST_OUTCOMES;
@@ -247,6 +247,10 @@ impl Giving {
                 None => Ok(()),
             },
             Job::Drive(job) => self.take_back(rt, job),
+            Job::History(job) if status == 0 => {
+                self.give(rt, job.file, [job.disk, None, None, None])?;
+                Ok(())
+            }
             _ => Ok(()),
         }
     }

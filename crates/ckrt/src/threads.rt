@@ -5,6 +5,7 @@ use ckrt_cli_files::{Closes, OutputReason, RealDisk, Sources, SystemSources};
 use ckrt_cli_names::Names;
 use ckrt_cli_words::Job;
 use ckrt_disk::{Calls, Disk};
+use ckrt_history::read_history;
 use ckrt_inspect::read_program;
 use ckrt_look_recording::{Frame, read_unreplayed};
 use ckrt_machine::Machine;
@@ -28,6 +29,8 @@ enum Look {
     End,
     /// Where each stood at each of its steps.
     Steps,
+    /// The same of a history.
+    StepsInHistory,
 }
 
 /// Tells each thread of a machine that hasn't ended.
@@ -114,6 +117,12 @@ fn tell_of<D: Disk>(
             }
             Ok(())
         }
+        Look::StepsInHistory => {
+            if let Ok(found) = read_history(alloc, disk) {
+                names.follow(alloc, found.machine, found.first, found.events);
+            }
+            Ok(())
+        }
     }
 }
 
@@ -121,8 +130,11 @@ fn tell_of<D: Disk>(
 /// by calls where they stood at each.
 fn looked_at<'a>(job: &Job<'a>) -> Option<(&'a str, Look)> {
     match job {
-        Job::Inspect(job) => Some((job.disk, Look::Threads(job.at))),
-        Job::Timeline(job) => Some((job.stretch.disk, Look::Threads(None))),
+        Job::Inspect(job) if !job.history => Some((job.disk, Look::Threads(job.at))),
+        Job::Timeline(job) if !job.stretch.history => {
+            Some((job.stretch.disk, Look::Threads(None)))
+        }
+        Job::Calls(job) if job.history => Some((job.disk, Look::StepsInHistory)),
         Job::Calls(job) => Some((job.disk, Look::Steps)),
         _ => None,
     }

@@ -10,3 +10,4 @@ pub mod ServedLemmas
 mod AppendLemmas
 mod InputLemmas
 mod KeepLemmas
+mod OpenedLemmas

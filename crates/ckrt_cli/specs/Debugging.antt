@@ -1,4 +1,4 @@
--- A session with a debugger over what a disk has recorded. The disk is closed before the session begins.
+-- A session with a debugger over what a disk or a history has recorded. That is closed before the session begins.
 use Rattle.std.specs.Prelude.{◌≡◌, ◌⊎◌, ◌++◌, ℕ, Bool, true, false, List, length, Option, Some, None, is_some, Result, Ok, Err}
 use Rattle.ckrt_disk.specs.Frame.{IsOnlyRead}
 use Rattle.ckrt_disk.specs.declared.disk.Disk.{Ghosts}
@@ -9,7 +9,11 @@ use Rattle.ckrt_stored.specs.declared.fault.RecoverFault.{RecoverFault}
 use Rattle.ckrt_stored.specs.declared.fault.RecoverFault.TheVariants as recover
 use Rattle.ckrt_inspect.specs.declared.fault.InspectFault.TheVariants as look
 use Rattle.ckrt_look_recording.specs.Reading.{HasParts, LeadsOlder, RecordsParts, newer_of, older_of, whole_by}
-use Rattle.ckrt_look_recording.specs.Recording.{HasRecording, Recorded}
+use Rattle.ckrt_look_recording.specs.Recording.{HasRecording, Recorded, recorded_of}
+use Rattle.ckrt_look_recording.specs.declared.recording.Recording.{Recording}
+use Rattle.ckrt_history.specs.History.{Tells}
+use Rattle.ckrt_history.specs.Reads as history
+use Rattle.ckrt_history.specs.declared.fault.HistoryFault.{HistoryFault}
 use Rattle.ckrt_look_recording.specs.declared.parts.Parts.{Parts}
 use Rattle.ckrt_gdb_stub.specs.Conversation.{BreaksOff, Serves}
 use Rattle.ckrt_gdb_stub.specs.Session.{BeginsAt, IsOutside}
@@ -51,12 +55,35 @@ pub record ReadsOpened {D : Type 0} (d : Ghosts D) (at : Option ℕ) (Opens : D 
   pub is_read : IsRead at answer
   pub closes : new ≡ with_closed asked end
 
--- what the disk of this path has recorded was read, or that can't be opened
+-- a history is read as one part
+abbrev pub part_or_fault : Result Recording HistoryFault → Result Parts JobFault
+part_or_fault (Ok r) = Ok (record { newer = r; older = None })
+part_or_fault (Err f) = Err (job.History f)
+
+-- A history that was opened was only read, and closed as it was then. What was read is what it has recorded, if it was honest to that end.
+pub record ReadsHistory {D : Type 0} (d : Ghosts D) (Opens : D → Type 0)
+    (asked new : Openings D) (result : Result Parts JobFault) : Type 0 where
+  pub start : D
+  pub is_opened : Opens start
+  pub end : D
+  pub answer : Result Recording HistoryFault
+  pub gives : result ≡ part_or_fault answer
+  pub read : IsOnlyRead d start end (history.is_device answer)
+  pub records : history.IsReadAs d start end recorded_of answer Tells
+  pub closes : new ≡ with_closed asked end
+
+-- what was opened is a history, where the words say so, and else a disk
+abbrev pub ReadsAt : (is_history : Bool) → {D : Type 0} → Ghosts D → (at : Option ℕ) → (D → Type 0)
+    → (asked new : Openings D) → Result Parts JobFault → Type 0
+ReadsAt true d at Opens asked new result = ReadsHistory d Opens asked new result
+ReadsAt false d at Opens asked new result = ReadsOpened d at Opens asked new result
+
+-- what the disk or the history of this path has recorded was read, or that can't be opened
 abbrev pub ReadsPath : {D : Type 0} → Ghosts D → (D → Type 0) → Debugging
     → (old new : Openings D) → Result Parts JobFault → Type 0
 ReadsPath d Opens j old new result =
     Lacks file.Disk j.disk (with_disk old) new result
-    ⊎ ReadsOpened d j.at Opens (with_disk old (opened j.disk)) new result
+    ⊎ ReadsAt j.history d j.at Opens (with_disk old (opened j.disk)) new result
 
 -- THE SESSION
 
@@ -152,7 +179,7 @@ DebugsRead at (Err f) old new result = (result ≡ Err f) × (new ≡ old)
 
 -- THE JOB
 
--- what the disk of the job's path has recorded was read, and then served
+-- what the disk or the history of the job's path has recorded was read, and then served
 pub record DebugsPath {D : Type 0} (d : Ghosts D) (Opens : D → Type 0) (j : Debugging)
     (old new : Outside D) (result : Result (Unit {0}) JobFault) : Type 0 where
   pub read : Result Parts JobFault

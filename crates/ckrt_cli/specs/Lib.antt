@@ -6,6 +6,7 @@ pub mod Lengths
 pub mod Performing
 pub mod Debugging
 pub mod Looking
+pub mod Histories
 pub mod Hunting
 pub mod Inputs
 pub mod Keeping

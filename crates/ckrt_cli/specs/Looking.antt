@@ -1,13 +1,22 @@
--- Looking at a stretch of what a disk has recorded: what is told of it is written as a text.
-use Rattle.std.specs.Prelude.{◌≡◌, ◌⊎◌, ℕ, nat_lt, Bool, true, false, List, Option, Some, Result, Ok, Err, unwrap_or}
+-- Looking at a stretch of what a disk or a history has recorded: what is told of it is written as a text.
+use Rattle.std.specs.Prelude.{◌≡◌, ◌⊎◌, ◌+◌, ℕ, nat_lt, Bool, true, false, List, length, Option, Some, None, Result, Ok, Err, unwrap_or}
 use Rattle.ckrt_disk.specs.Frame.{IsOnlyRead}
 use Rattle.ckrt_disk.specs.declared.disk.Disk.{Ghosts}
+use Rattle.ckrt_events.specs.declared.event.Event.{Event}
+use Rattle.ckrt_machine.specs.Events.{fold}
+use Rattle.ckrt_machine.specs.Steps.{State}
 use Rattle.ckrt_inspect.specs.Inspect.{is_device}
+use Rattle.ckrt_inspect.specs.Listing.{listing_by}
 use Rattle.ckrt_inspect.specs.declared.fault.InspectFault.{InspectFault}
 use Rattle.ckrt_inspect.specs.declared.fault.InspectFault.TheVariants.{Range}
+use Rattle.ckrt_history.specs.History.{Tells}
+use Rattle.ckrt_history.specs.Reads as history
+use Rattle.ckrt_history.specs.declared.fault.HistoryFault.{HistoryFault}
+use Rattle.ckrt_look_recording.specs.Recording.{Recorded, recorded_of}
+use Rattle.ckrt_look_recording.specs.declared.recording.Recording.{Recording}
 use Rattle.ckrt_look_recording.specs.declared.rule.Rule.{Rule}
 use Rattle.ckrt_look_calls.specs.Recorded.{AreLines}
-use Rattle.ckrt_look_calls.specs.Stretches.{Account, TellsStretch, account}
+use Rattle.ckrt_look_calls.specs.Stretches.{Account, TellsRecording, TellsStretch, account}
 use Rattle.ckrt_look_calls.specs.declared.stretch.Stretch.{Stretch}
 use Rattle.ckrt_look_profile.specs.Recorded.{IsProfileText}
 use Rattle.ckrt_look_profile.specs.declared.form.Form.{Form as ProfileTextForm}
@@ -20,7 +29,7 @@ use Rattle.ckrt_look_timeline.specs.Widths.{is_width}
 use Rattle.ckrt_look_timeline.specs.declared.recorded.Style.{Style}
 use Rattle.ckrt_look_timeline.specs.declared.words.Form.{Form}
 use Rattle.ckrt_look_timeline.specs.declared.words.Form.TheVariants as form
-use Rattle.ckrt_cli_words.specs.Jobs.{DiskStretch, Drawing, Profiling, Shadowing}
+use Rattle.ckrt_cli_words.specs.Jobs.{DiskStretch, Drawing, Inspection, Profiling, Shadowing}
 use Rattle.ckrt_cli_words.specs.declared.job.ProfileForm.{ProfileForm}
 use Rattle.ckrt_cli_words.specs.declared.job.ProfileForm.TheVariants as asked
 use Rattle.ckrt_cli_files.specs.Openings.{opened, with_closed, with_disk}
@@ -64,20 +73,53 @@ pub record LooksOpened {D : Type 0} (d : Ghosts D) (it : Sight D) (asked new : O
   pub closes : new.openings ≡ with_closed asked.openings end
   pub unread : new.unread ≡ asked.unread
 
--- the disk of the stretch was looked at, or that can't be opened
+-- a stretch of this was told, or why it wasn't
+abbrev pub TellsRecorded : Account → Stretch → Recorded → (old new : Option (List ℕ))
+    → Result (Unit {0}) JobFault → Type 0
+TellsRecorded a s r old new result =
+    (answer : Result (Unit {0}) InspectFault) × (result ≡ answer_of answer)
+    × TellsRecording a s r old new answer
+
+-- that of what was read of a history; nothing is written where nothing was read
+abbrev pub TellsRead : Account → Stretch → Result Recording HistoryFault
+    → (old new : Option (List ℕ)) → Result (Unit {0}) JobFault → Type 0
+TellsRead a s (Ok r) old new result = TellsRecorded a s (recorded_of r) old new result
+TellsRead a s (Err f) old new result = (result ≡ Err (job.History f)) × (new ≡ old)
+
+-- A history that was opened was only read, and closed as it was then. What was read is what it has recorded, if it was honest to that end, and
+-- that was told.
+pub record LooksInHistory {D : Type 0} (d : Ghosts D) (it : Sight D) (asked new : Outside D)
+    (result : Result (Unit {0}) JobFault) : Type 0 where
+  pub start : D
+  pub is_opened : it.Opens start
+  pub end : D
+  pub answer : Result Recording HistoryFault
+  pub read : IsOnlyRead d start end (history.is_device answer)
+  pub records : history.IsReadAs d start end recorded_of answer Tells
+  pub tells : TellsRead it.Tells (stretch_of it.stretch) answer asked.written new.written result
+  pub closes : new.openings ≡ with_closed asked.openings end
+  pub unread : new.unread ≡ asked.unread
+
+-- what was opened is a history, where the words say so, and else a disk
+abbrev pub LooksAt : (is_history : Bool) → {D : Type 0} → Ghosts D → Sight D → (asked new : Outside D)
+    → Result (Unit {0}) JobFault → Type 0
+LooksAt true d it asked new result = LooksInHistory d it asked new result
+LooksAt false d it asked new result = LooksOpened d it asked new result
+
+-- the disk or the history of the stretch was looked at, or that can't be opened
 abbrev pub LooksThere : {D : Type 0} → Ghosts D → Sight D → (old new : Outside D)
     → Result (Unit {0}) JobFault → Type 0
 LooksThere d it old new result =
     IsRefused it.stretch.disk old new result
-    ⊎ LooksOpened d it (asked_for old (with_disk old.openings (opened it.stretch.disk))) new
-    result
+    ⊎ LooksAt it.stretch.history d it
+    (asked_for old (with_disk old.openings (opened it.stretch.disk))) new result
 
 -- a stretch that would end before it begins
 abbrev pub ends_before : (from to : Option ℕ) → Bool
 ends_before (Some from) (Some to) = nat_lt to from
 ends_before from to = false
 
--- What the disk of the job's path has recorded was told, or why it wasn't. Of a stretch that would end before it begins nothing was asked for.
+-- What the disk or the history of the job's path has recorded was told, or why it wasn't. Of a stretch that would end before it begins nothing was asked for.
 abbrev pub LooksPath : {D : Type 0} → Ghosts D → Sight D → (old new : Outside D)
     → Result (Unit {0}) JobFault → Type 0
 LooksPath d it old new result =
@@ -111,6 +153,19 @@ ChecksPath d Opens rules s old new result =
     ((is_room s.memory ≡ false) × (result ≡ Err job.Range) × (new ≡ old))
     ⊎ ((is_room s.memory ≡ true)
     × LooksPath d (sight s.stretch Opens (checks_account rules (room_of s.memory))) old new result)
+
+-- `inspect` of a history: the listing of the program behind all events of the stretch
+abbrev pub IsListing : (with_code : Bool) → (k : ℕ) → List Event → State → (text : List ℕ) → Type 0
+IsListing with_code k es s text = text ≡ listing_by with_code (k + length es) (fold es s).state
+
+-- of all events up to that moment, none of which is told
+abbrev pub moment_of : Inspection → DiskStretch
+moment_of i = record { disk = i.disk; history = true; from = None; to = i.at; last = Some 0 }
+
+abbrev pub ListsPath : {D : Type 0} → Ghosts D → (D → Type 0) → Inspection → (old new : Outside D)
+    → Result (Unit {0}) JobFault → Type 0
+ListsPath d Opens i old new result =
+    LooksPath d (sight (moment_of i) Opens (account (IsListing i.code))) old new result
 
 -- `timeline`: what its threads did, as trace events with `--json`, else as a picture
 abbrev pub form_of : Bool → Form

@@ -11,7 +11,7 @@ use Rattle.ckrt_main.specs.Service.{IsStartFault, Served, ServedPart}
 use Rattle.ckrt_main.specs.declared.fault.ServeFault.{ServeFault}
 use Rattle.ckrt_main.specs.declared.fault.ServeFault.TheVariants as serve
 use Rattle.ckrt_cli_words.specs.Commands.{ckrt_app}
-use Rattle.ckrt_cli_words.specs.Jobs.{Driving, Formatting, Hunting, Request, Inspection, asks_both_forms, calls, check, core, debug, drive, format, hunt, inspect, profile, races, request_of_words, run, stored, timeline, version}
+use Rattle.ckrt_cli_words.specs.Jobs.{Driving, Formatting, Hunting, Request, Inspection, asks_both_forms, calls, check, core, debug, drive, format, history, hunt, inspect, profile, races, request_of_words, run, stored, timeline, version}
 use Rattle.ckrt_cli_words.specs.declared.job.WordsFault.{WordsFault}
 use Rattle.ckrt_cli_words.specs.declared.job.WordsFault.TheVariants as words
 use Rattle.ckrt_drive.specs.declared.stream.StreamOutput.{StreamOutput}
@@ -27,8 +27,9 @@ use Rattle.ckrt_cli_disk.specs.Showing.{Shows, shown_of}
 use Rattle.ckrt_hunt_schedules.specs.declared.verdict.Verdict.{Verdict}
 use Rattle.ckrt_hunt_schedules.specs.declared.verdict.Verdict.TheVariants as verdict
 use Rattle.ckrt_look_recording.specs.declared.rule.Rule.{Rule}
-use Rattle.ckrt_cli.specs.Looking.{ChecksPath, ProfilesPath, RacesPath, TimelinePath, TracesPath}
+use Rattle.ckrt_cli.specs.Looking.{ChecksPath, ListsPath, ProfilesPath, RacesPath, TimelinePath, TracesPath}
 use Rattle.ckrt_cli.specs.Debugging.{DebugsPath}
+use Rattle.ckrt_cli.specs.Histories.{TellsHistory, given}
 use Rattle.ckrt_cli.specs.Hunting.{Hunter, HuntsPath, kept_size}
 use Rattle.ckrt_cli_files.specs.Real.{IsDiskOf, IsFilledOf, RealFile, real_gives}
 use Rattle.ckrt_cli_files.specs.Sources.{Gives}
@@ -167,6 +168,16 @@ ShowsPath d Opens i old new result =
     ⊎ ShowsOpened d Opens i (asked_for old (with_disk old.openings (opened i.disk))) new
     result
 
+-- that of a history, where the words say so, and else of a disk
+abbrev pub ShowsAt : (is_history : Bool) → {D : Type 0} → Ghosts D → (D → Type 0) → Inspection
+    → (old new : Outside D) → Result (Unit {0}) JobFault → Type 0
+ShowsAt true d Opens i old new result = ListsPath d Opens i old new result
+ShowsAt false d Opens i old new result = ShowsPath d Opens i old new result
+
+abbrev pub InspectsPath : {D : Type 0} → Ghosts D → (D → Type 0) → Inspection
+    → (old new : Outside D) → Result (Unit {0}) JobFault → Type 0
+InspectsPath d Opens i old new result = ShowsAt i.history d Opens i old new result
+
 -- the outcome of a job that has no end of its own
 abbrev pub outcome_without_end : Result (Unit {0}) JobFault → Result Done JobFault
 outcome_without_end (Ok it) = Ok done.Whole
@@ -216,7 +227,7 @@ Performs {d = d} it (format f) old new outcome =
 Performs {d = d} it (run disk) old new outcome =
     Does outcome_without_end (RunsPath d disk (it.Opens disk) old new) outcome
 Performs {d = d} it (inspect i) old new outcome =
-    Does outcome_without_end (ShowsPath d (it.Opens i.disk) i old new) outcome
+    Does outcome_without_end (InspectsPath d (it.Opens i.disk) i old new) outcome
 Performs {d = d} it (core c) old new outcome =
     Does outcome_without_end (CoresPath d (it.Opens c.disk) (it.Fills c.file) c old.openings new.openings) outcome
     × (new.written ≡ old.written) × (new.unread ≡ old.unread)
@@ -234,6 +245,8 @@ Performs {d = d} it (profile p) old new outcome =
     Does outcome_without_end (ProfilesPath d (it.Opens p.stretch.disk) p old new) outcome
 Performs {d = d} it (hunt h) old new outcome =
     Does outcome_of_hunt (HuntsPath d (hunter_in it h) old new) outcome
+Performs {d = d} it (history k) old new outcome =
+    Does outcome_without_end (TellsHistory d (given it.Opens it.others.Outputs) k old new) outcome
 Performs {d = d} it (drive j) old new outcome =
     Does outcome_with_end
     (DrivesPath (means_in it old new j) j old.openings new.openings) outcome

@@ -1,11 +1,11 @@
-//! Serving what a disk has recorded to a debugger.
+//! Serving what a disk or a history has recorded to a debugger.
 ghost use Rattle.std.specs.Prelude.{◌≡◌, IfOk};
 ghost use Rattle.ckrt_cli_words.specs.Jobs.{debugging_of};
 ghost use Rattle.ckrt_cli_reports.specs.Outside.{outside};
 ghost use Rattle.ckrt_disk.specs.Frame.{IsOnlyRead};
 ghost use Rattle.ckrt_stored.specs.Reads.{IsReadAs, is_device};
 ghost use Rattle.ckrt_look_recording.specs.Reading.{RecordsParts};
-ghost use Rattle.ckrt_cli.specs.Debugging.{DebugsParts, DebugsPath, IsRead, ReadsOpened, ReadsPath, ServesStub, fault_of, first_in, line, run_in};
+ghost use Rattle.ckrt_cli.specs.Debugging.{DebugsParts, DebugsPath, IsRead, ReadsAt, ReadsHistory, ReadsOpened, ReadsPath, ServesStub, fault_of, first_in, line, run_in};
 
 use ckrt_cli_files::{JobFile, Sources};
 use ckrt_cli_reports::JobFault;
@@ -13,6 +13,7 @@ use ckrt_cli_words::DebugJob;
 use ckrt_disk::Disk;
 use ckrt_gdb_playback::Recorded;
 use ckrt_gdb_stub::{DebugFault, Stub};
+use ckrt_history::read_history;
 use ckrt_inspect::InspectFault;
 use ckrt_look_recording::{Parts, read_parts, read_unreplayed};
 use ckrt_main::ServeFault;
@@ -55,7 +56,42 @@ fn read_opened<'a, I: Read, D: Disk, S: Sources<'a, I, D>>(
     }
 }
 
-/// Reads what the disk of a job's path has recorded.
+/// Reads what a history that was opened has recorded, and closes it.
+fn read_opened_history<'a, I: Read, D: Disk, S: Sources<'a, I, D>>(
+    alloc: Global,
+    history: D,
+    sources: &mut S,
+) -> Result<Parts, JobFault>
+    ensures reads { ReadsHistory D.Disk (λ start. start ≡ history)
+        (S.openings sources.old) (S.openings sources.new) result }
+{
+    let mut history = history;
+    let answer = read_history(alloc, &mut history);
+    sources.close(history);
+    match answer {
+        Ok(newer) => Ok(Parts { newer, older: None }),
+        Err(fault) => Err(JobFault::History(fault)),
+    }
+}
+
+/// Reads what was opened has recorded, a history where the words say so, and else a disk, and closes it.
+fn read_at_opened<'a, I: Read, D: Disk, S: Sources<'a, I, D>>(
+    alloc: Global,
+    opened: D,
+    job: &DebugJob<'a>,
+    sources: &mut S,
+) -> Result<Parts, JobFault>
+    ensures reads { ReadsAt job.now.history D.Disk job.now.at (λ start. start ≡ opened)
+        (S.openings sources.old) (S.openings sources.new) result }
+{
+    if job.history {
+        read_opened_history::<I, D, S>(alloc, opened, sources)
+    } else {
+        read_opened::<I, D, S>(alloc, opened, job.at, sources)
+    }
+}
+
+/// Reads what the disk or the history of a job's path has recorded.
 fn read_there<'a, I: Read, D: Disk, S: Sources<'a, I, D>>(
     alloc: Global,
     job: &DebugJob<'a>,
@@ -65,7 +101,7 @@ fn read_there<'a, I: Read, D: Disk, S: Sources<'a, I, D>>(
         (S.openings sources.old) (S.openings sources.new) result }
 {
     match sources.look_at_disk(job.disk) {
-        Ok(disk) => read_opened::<I, D, S>(alloc, disk, job.at, sources),
+        Ok(opened) => read_at_opened::<I, D, S>(alloc, opened, job, sources),
         Err(fault) => Err(JobFault::File(JobFile::Disk, fault)),
     }
 }
@@ -147,14 +183,14 @@ fn debug_parts<R: Read, W: Write>(
     }
 }
 
-/// Serves what the disk of a path has recorded to a debugger, by gdb's remote protocol: it reads packets and writes replies. The
-/// session begins at the first event that the disk has, or once so many events are done. The disk is only read, and closed before the
-/// first byte is read of the debugger.
+/// Serves what the disk or the history of a path has recorded to a debugger, by gdb's remote protocol: it reads packets and writes replies.
+/// The session begins at the first event that is recorded, or once so many events are done. The disk or the history is only read, and closed
+/// before the first byte is read of the debugger.
 ///
 /// # Errors
 ///
 /// The first that applies: `File` of the disk; `Recover`, where nothing is recovered from it, where the disk failed a read or memory
-/// was refused; `OutOfMemory` where memory is refused to the session; `Inspect` of `Range` where it has recorded no position with so
+/// was refused; `History`, where nothing is read of the history; `OutOfMemory` where memory is refused to the session; `Inspect` of `Range` where it has recorded no position with so
 /// many events done; `Serve` of `Read` and of `Write` where the debugger's line fails, and `OutOfMemory` where memory is refused to
 /// what a `monitor` tells. The events are made when the session moves, or before it begins where so many are to be done. Where one isn't
 /// accepted at its turn the content is damaged, which is `Recover` of `Damaged` then. Where there is an older part, it's `OlderDiffers`, also

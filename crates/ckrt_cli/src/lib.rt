@@ -50,6 +50,13 @@
 //! with a disk for each outcome, in their order, each with the run of the first seed that came to it. The first one that isn't kept is
 //! named, and ends it.
 //!
+//! The job that keeps a history of a disk.
+//!
+//! Proved of [`history_path`]: the history that the words name is only read where they name no disk. Else it is begun from the disk or
+//! brought up to it, and the disk is only read: a stop at any moment leaves of the file what `ckrt_history` says. What was written are the
+//! lines of how far it goes, or nothing where there is a fault, unless the writer failed. Of the looks, with `--history`: that what is told is
+//! what the history has recorded.
+//!
 //! The promise of many drives from the words of the program on: runs of one command, one after another.
 #![tactic(auto)]
 
@@ -58,10 +65,12 @@ mod check;
 mod debug;
 mod folder;
 mod found;
+mod history;
 mod hunting;
 mod input;
 mod keeping;
 mod laws;
+mod listing;
 mod look_laws;
 mod looking;
 mod profile;
@@ -74,8 +83,10 @@ mod timeline;
 pub use calls::calls_path;
 pub use check::check_path;
 pub use debug::debug_path;
+pub use history::history_path;
 pub use hunting::hunt_path;
 pub use laws::{commands_go_on, disks_are_left_before_drives, runs_go_on};
+pub use listing::list_path;
 pub use look_laws::{
     recorded_events_are_accepted, refused_events_are_damage, runs_that_lead_on_are_sound,
     sound_runs_are_recorded,

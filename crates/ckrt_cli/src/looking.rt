@@ -1,17 +1,18 @@
-//! Looking at a stretch of what a disk has recorded.
+//! Looking at a stretch of what a disk or a history has recorded.
 ghost use Rattle.std.specs.Prelude.{◌≡◌, ℕ, List, Option, Result};
 ghost use Rattle.ckrt_disk.specs.Frame.{IsOnlyRead};
 ghost use Rattle.ckrt_inspect.specs.Inspect.{is_device};
 ghost use Rattle.ckrt_cli_words.specs.Jobs.{disk_stretch_of};
 ghost use Rattle.ckrt_cli_reports.specs.Outside.{outside};
-ghost use Rattle.ckrt_cli.specs.Looking.{LooksOpened, LooksPath, LooksThere, answer_of, ends_before, sight, stretch_of};
+ghost use Rattle.ckrt_cli.specs.Looking.{LooksAt, LooksInHistory, LooksOpened, LooksPath, LooksThere, answer_of, ends_before, sight, stretch_of};
 
 use ckrt_cli_files::{JobFile, Sources};
 use ckrt_cli_reports::JobFault;
 use ckrt_cli_words::StretchJob;
 use ckrt_disk::Disk;
+use ckrt_history::read_history;
 use ckrt_inspect::InspectFault;
-use ckrt_look_calls::{Stretch, Telling, tell_stretch};
+use ckrt_look_calls::{Stretch, Telling, tell_recording, tell_stretch};
 use std::alloc::Global;
 use std::io::{Read, Write};
 
@@ -57,7 +58,53 @@ fn look_opened<'a, I: Read, D: Disk, S: Sources<'a, I, D>, T: Telling, W: Write>
     answer_of(answer)
 }
 
-/// Tells of the disk of a path.
+/// Tells of a history that was opened, and closes it.
+fn look_in_history<'a, I: Read, D: Disk, S: Sources<'a, I, D>, T: Telling, W: Write>(
+    alloc: Global,
+    history: D,
+    job: &StretchJob<'a>,
+    telling: &T,
+    sources: &mut S,
+    writer: &mut W,
+) -> Result<(), JobFault>
+    ensures looks { (left : Option (List ℕ)) → LooksInHistory D.Disk
+        (sight (disk_stretch_of job.now) (λ start. start ≡ history) (T.Tells telling.now))
+        (outside (S.openings sources.old) (W.contents writer.old) left)
+        (outside (S.openings sources.new) (W.contents writer.new) left) result }
+{
+    let mut history = history;
+    let answer = read_history(alloc, &mut history);
+    sources.close(history);
+    match answer {
+        Ok(recording) => {
+            answer_of(tell_recording(alloc, recording, stretch(job), telling, writer))
+        }
+        Err(fault) => Err(JobFault::History(fault)),
+    }
+}
+
+/// Tells of what was opened, a history where the words say so, and else a disk, and closes it.
+fn look_at_opened<'a, I: Read, D: Disk, S: Sources<'a, I, D>, T: Telling, W: Write>(
+    alloc: Global,
+    opened: D,
+    job: &StretchJob<'a>,
+    telling: &T,
+    sources: &mut S,
+    writer: &mut W,
+) -> Result<(), JobFault>
+    ensures looks { (left : Option (List ℕ)) → LooksAt job.now.history D.Disk
+        (sight (disk_stretch_of job.now) (λ start. start ≡ opened) (T.Tells telling.now))
+        (outside (S.openings sources.old) (W.contents writer.old) left)
+        (outside (S.openings sources.new) (W.contents writer.new) left) result }
+{
+    if job.history {
+        look_in_history::<I, D, S, T, W>(alloc, opened, job, telling, sources, writer)
+    } else {
+        look_opened::<I, D, S, T, W>(alloc, opened, job, telling, sources, writer)
+    }
+}
+
+/// Tells of the disk or the history of a path.
 fn look_there<'a, I: Read, D: Disk, S: Sources<'a, I, D>, T: Telling, W: Write>(
     alloc: Global,
     job: &StretchJob<'a>,
@@ -72,7 +119,9 @@ fn look_there<'a, I: Read, D: Disk, S: Sources<'a, I, D>, T: Telling, W: Write>(
         (outside (S.openings sources.new) (W.contents writer.new) left) result }
 {
     match sources.look_at_disk(job.disk) {
-        Ok(disk) => look_opened::<I, D, S, T, W>(alloc, disk, job, telling, sources, writer),
+        Ok(opened) => {
+            look_at_opened::<I, D, S, T, W>(alloc, opened, job, telling, sources, writer)
+        }
         Err(fault) => Err(JobFault::File(JobFile::Disk, fault)),
     }
 }
@@ -87,13 +136,13 @@ fn ends_before(from: Option<u64>, to: Option<u64>) -> bool
     }
 }
 
-/// Tells of the disk of a path, all that it has recorded, or the events behind so many and up to so many. The disk is only read.
+/// Tells of the disk or the history of a path, all that it has recorded, or the events behind so many and up to so many. It is only read.
 ///
 /// # Errors
 ///
 /// The first that applies: `Range` where the stretch would end before it begins, before anything is opened; `File` of the disk;
-/// `Inspect`, where nothing is recovered from it, where the disk failed a read or memory was refused, or where the writer failed;
-/// `Unrecorded` where it hasn't recorded all of the stretch, or no longer has it.
+/// `Inspect`, where nothing is recovered from the disk, where it failed a read or memory was refused, or where the writer failed; `History`
+/// where nothing is read of the history; `Unrecorded` where not all of the stretch is recorded, or no longer.
 pub(crate) fn look_path<'a, I: Read, D: Disk, S: Sources<'a, I, D>, T: Telling, W: Write>(
     alloc: Global,
     job: &StretchJob<'a>,

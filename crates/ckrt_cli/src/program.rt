@@ -5,12 +5,13 @@ ghost use Rattle.clap.specs.Words.{takes};
 ghost use Rattle.ckrt_cli_words.specs.Commands.{ckrt_app};
 ghost use Rattle.ckrt_cli_words.specs.Jobs.{Formatting, asks_both_forms, Request, format, version, formatting_of, inspection_of, request_of, request_of_words};
 ghost use Rattle.ckrt_cli_files.specs.Files.{openings_of};
-ghost use Rattle.ckrt_cli.specs.Performing.{made_line, MakesPath, Performs, RunsOpened, RunsPath, RunsWords, ServesStored, ShowsOpened, ShowsPath, outcome_of_hunt, outcome_with_end, outcome_without_end, real_files, size_of};
+ghost use Rattle.ckrt_cli.specs.Performing.{made_line, InspectsPath, MakesPath, Performs, RunsOpened, RunsPath, RunsWords, ServesStored, ShowsOpened, ShowsPath, outcome_of_hunt, outcome_with_end, outcome_without_end, real_files, size_of};
 ghost use Rattle.ckrt_cli_reports.specs.Outside.{outside};
 ghost use Rattle.ckrt_cli_reports.specs.Lines.{version_line};
 
 use crate::{
-    calls_path, check_path, debug_path, hunt_path, profile_path, races_path, stored, timeline_path,
+    calls_path, check_path, debug_path, history_path, hunt_path, list_path, profile_path,
+    races_path, stored, timeline_path,
 };
 use ckrt_cli_disk::{core_path, drive_path, inspect_disk, make_disk, run_disk};
 use ckrt_cli_files::{ImageReader, JobFile, RealDisk, Sources, SystemSources};
@@ -134,6 +135,25 @@ fn inspect_path<'a, I: Read, D: Disk, S: Sources<'a, I, D>, W: Write>(
     }
 }
 
+/// Shows the disk or the history of a path.
+fn show<'a, I: Read, D: Disk, S: Sources<'a, I, D>, W: Write>(
+    alloc: Global,
+    job: &InspectJob<'a>,
+    sources: &mut S,
+    writer: &mut W,
+) -> Result<(), JobFault>
+    ensures shows { (left : Option (List ℕ))
+        → InspectsPath D.Disk (S.opens sources.old job.now.disk.now) (inspection_of job.now)
+        (outside (S.openings sources.old) (W.contents writer.old) left)
+        (outside (S.openings sources.new) (W.contents writer.new) left) result }
+{
+    if job.history {
+        list_path::<I, D, S, W>(alloc, job, sources, writer)
+    } else {
+        inspect_path::<I, D, S, W>(alloc, job, sources, writer)
+    }
+}
+
 /// Serves the stored program in memory.
 fn serve_stored<R: Read, W: Write>(
     alloc: Global,
@@ -218,7 +238,7 @@ fn perform<
         Job::Version => without_end(write_version(writer)),
         Job::Format(job) => without_end(make::<I, D, S, W>(alloc, job, sources, writer)),
         Job::Run(path) => without_end(run::<I, D, S, R, W>(alloc, path, sources, reader, writer)),
-        Job::Inspect(job) => without_end(inspect_path::<I, D, S, W>(alloc, job, sources, writer)),
+        Job::Inspect(job) => without_end(show::<I, D, S, W>(alloc, job, sources, writer)),
         Job::Core(job) => without_end(core_path::<I, D, S>(alloc, job, sources)),
         Job::Calls(job) => without_end(calls_path::<I, D, S, W>(alloc, job, sources, writer)),
         Job::Debug(job) => {
@@ -237,6 +257,9 @@ fn perform<
         Job::Hunt(job) => {
             of_hunt(hunt_path::<I, D, S, W, M>(alloc, job, sources, writer, meter))
         }
+        Job::History(job) => {
+            without_end(history_path::<I, D, S, W>(alloc, job, sources, writer))
+        }
         Job::Drive(job) => {
             with_end(drive_path::<I, D, S, W, M>(alloc, job, sources, writer, meter))
         }
@@ -244,7 +267,7 @@ fn perform<
 }
 
 /// Does what the words after the program's name ask for, with images and disks of any sources: `format DISK IMAGE` prints
-/// `formatted SIZE`, `run DISK` answers the lines of the reader, `inspect DISK` shows what the disk holds, `core DISK FILE`
+/// `formatted SIZE`, `history FILE` tells how far that history goes, and brings it up to a disk first where the words name one, `run DISK` answers the lines of the reader, `inspect DISK` shows what the disk holds, `core DISK FILE`
 /// writes it as a core into FILE, `calls DISK` tells its calls, `debug DISK` serves it to gdb, `races DISK` tells its data races and `check DISK` its errors of memory, with callers by these rules, `profile DISK` where its
 /// steps went, `timeline DISK` draws what its threads did, `hunt IMAGE` tells what other schedules come to, `drive DISK`
 /// runs its program to its end, with its output in a file or printed, and reports what it came to in a line, `--version`

@@ -25,6 +25,8 @@ pub enum JobFile {
     Kept,
     /// The first disk of the folder that runs of a hunt are to be kept in.
     FirstKept,
+    /// The history.
+    History,
 }
 
 /// Why a file can't be opened, read, locked or filled.
@@ -80,6 +82,8 @@ pub enum FileFault {
     NotACore,
     /// Something else than a core has the path of one in the making.
     NotInWriting,
+    /// It holds something else than a history, and isn't free to become one.
+    NotAHistory,
     /// A write or a sync of it failed.
     Unwritten,
     /// Something has got the path that was free.
@@ -136,6 +140,7 @@ impl JobFile {
             JobFile::Making => "the disk in the making ",
             JobFile::Core => "the core ",
             JobFile::Kept | JobFile::FirstKept => "the disk ",
+            JobFile::History => "the history ",
         }
     }
 
@@ -149,7 +154,8 @@ impl JobFile {
             | JobFile::Input
             | JobFile::Output
             | JobFile::Core
-            | JobFile::Kept => "",
+            | JobFile::Kept
+            | JobFile::History => "",
         }
     }
 }
@@ -197,6 +203,8 @@ impl FileFault {
                 "it is no core, and is unchanged; move it away, or give another path",
             FileFault::NotInWriting =>
                 "what has this path with .making behind it is no core, and is unchanged; move it away, then give the command again",
+            FileFault::NotAHistory =>
+                "it is no history of ckrt, and is unchanged; look at its path, or give another",
             FileFault::Unwritten =>
                 "a write or sync of it failed; look after its device, then give the command again",
             FileFault::IsThere =>

@@ -7,7 +7,7 @@ ghost use Rattle.ckrt_cli_files.specs.Streams.{IsBesideStreams};
 
 use crate::file::{FileFault, MAKING};
 use crate::growing::GrowingFile;
-use crate::leftover::{FileKind, kind_of, look_at_leftover};
+use crate::leftover::{FileKind, is_blank, kind_of, look_at_leftover};
 use crate::output::OpenedOutput;
 use crate::reason::OutputReason;
 use crate::told::{RealDisk, Teller, ToldFile};
@@ -437,6 +437,51 @@ pub(crate) fn open_system_output<'a, R: Files<File = File>, H: Holds>(
     ensures { IfOk result (IsFreshOutput ⟦<RealDisk<'a, H> as Disk>⟧ opened.made) }
 {
     let claimed = open_or_make(rt, path)?;
+    output_of(claimed.file, opened, why)
+}
+
+/// How many bytes of a history have its first fields.
+const HISTORY_FRONT: usize = 72;
+
+/// Whether a plain file of which the system told this has zeros alone where a history has its first fields.
+fn is_blank_file(file: &File, told: &Metadata) -> Result<bool, FileFault> {
+    let mut disk: RealDisk<'_, Brand> = whole_file(file.try_clone()?, told, Calls::new());
+    match is_blank(&mut disk, HISTORY_FRONT) {
+        Ok(found) => Ok(found),
+        Err(_) => Err(FileFault::Other),
+    }
+}
+
+/// Fills a plain file of a few zeros, or of no byte, up to the first fields of a history. What else is so short is none, nor is what isn't a plain
+/// file.
+fn fill_front(file: &File) -> Result<(), FileFault> {
+    let told = file.metadata()?;
+    let length = told.len() as usize;
+    if !told.is_file() {
+        return Err(FileFault::NotAHistory);
+    }
+    if length >= HISTORY_FRONT {
+        return Ok(());
+    }
+    if !is_blank_file(file, &told)? {
+        return Err(FileFault::NotAHistory);
+    }
+    let zeros = [0; HISTORY_FRONT];
+    file.write_all_at(&zeros[length..], length as u64)?;
+    Ok(())
+}
+
+/// The file of the history of a path.
+pub(crate) fn open_system_history<'a, R: Files<File = File>, H: Holds>(
+    rt: &R,
+    path: &str,
+    opened: Calls<FileUse>,
+    why: &'a Cell<OutputReason>,
+) -> Result<OpenedOutput<RealDisk<'a, H>>, FileFault>
+    ensures { IfOk result (IsFreshOutput ⟦<RealDisk<'a, H> as Disk>⟧ opened.made) }
+{
+    let claimed = open_or_make(rt, path)?;
+    fill_front(&claimed.file)?;
     output_of(claimed.file, opened, why)
 }
 

@@ -150,7 +150,7 @@ fn has_zeros<D: Disk>(disk: &mut D, at: usize, count: usize) -> Result<bool, Dev
 }
 
 /// Whether the first bytes of a file, that many at most, are nothing but zeros.
-fn is_blank<D: Disk>(disk: &mut D, size: usize) -> Result<bool, DeviceFault>
+pub(crate) fn is_blank<D: Disk>(disk: &mut D, size: usize) -> Result<bool, DeviceFault>
     ensures read { IsOnlyRead D.Disk disk.old disk.new (is_err result) }
     ensures exact { IfOk result
         (λ found. D.is_honest disk.new → found ≡ is_zero (take size (D.content disk.old))) }

@@ -122,6 +122,13 @@ pub trait Sources<'a, I: Read, D: Disk>: Closes<D> {
         ensures asked { Self.openings self.new
             ≡ with_output (Self.openings self.old) (opening_of path.now result) };
 
+    /// The file of a history, as [`open_output`](Sources::open_output) opens an output. One that is empty, or has fewer than 72 bytes, all
+    /// zeros, gets zeros up to them, so that its first fields can be read.
+    fn open_history(&mut self, path: &'a str) -> Result<OpenedOutput<D>, FileFault>
+        ensures output { IfOk result ((gives self.old).Outputs path.now) }
+        ensures asked { Self.openings self.new
+            ≡ with_output (Self.openings self.old) (opening_of path.now result) };
+
     /// The input of a path, which is only read. What can't be read by offset, as a pipe, is refused.
     fn open_input(&mut self, path: &'a str) -> Result<D, FileFault>
         ensures input { IfOk result ((gives self.old).Inputs path.now) }

@@ -8,7 +8,8 @@ use crate::core_paths::{open_core_file, replace_core};
 use crate::file::{FileFault, FileOpening};
 use crate::files::{
     beside, disk_of, give_name, longer_disk, look_at_place, open_disk_file, open_filled_file,
-    open_making_file, open_read, open_shared, open_system_input, open_system_output, remove,
+    open_making_file, open_read, open_shared, open_system_history, open_system_input,
+    open_system_output, remove,
 };
 use crate::identity::{FileId, leads_to};
 use crate::image_reader::{ImageReader, with_words};
@@ -343,6 +344,16 @@ impl<'a, R: Files<File = File>, H: Holds> SystemSources<'a, R, RealDisk<'a, H>> 
         let opened = self.note(FileUse::Output, path);
         open_system_output(self.rt, path, opened, self.why)
     }
+
+    /// The file of the history of a path. The disk is never taken for it.
+    fn open_history_file(&mut self, path: &str) -> Result<OpenedOutput<RealDisk<'a, H>>, FileFault>
+        ensures openings { openings_of self.new ≡ openings_of self.old }
+        ensures output { IfOk result (IsOutputOf ⟦<RealDisk<'a, H> as Disk>⟧ path.now) }
+    {
+        self.taken_for(path)?;
+        let opened = self.note(FileUse::Output, path);
+        open_system_history(self.rt, path, opened, self.why)
+    }
 }
 
 impl<'a, R: Files<File = File>, D: Drop> Closes<D> for SystemSources<'a, R, D> {
@@ -445,6 +456,12 @@ impl<'a, R: Files<File = File>, H: Holds> Sources<'a, ImageReader, RealDisk<'a, 
 
     fn open_output(&mut self, path: &'a str) -> Result<OpenedOutput<RealDisk<'a, H>>, FileFault> {
         let opened = self.open_output_file(path);
+        self.output = self.output.with(&FileOpening::of(path, &opened));
+        opened
+    }
+
+    fn open_history(&mut self, path: &'a str) -> Result<OpenedOutput<RealDisk<'a, H>>, FileFault> {
+        let opened = self.open_history_file(path);
         self.output = self.output.with(&FileOpening::of(path, &opened));
         opened
     }

@@ -11,6 +11,8 @@ use Rattle.ckrt_inspect.specs.declared.fault.InspectFault.{InspectFault}
 use Rattle.ckrt_inspect.specs.declared.fault.InspectFault.TheVariants as look
 use Rattle.ckrt_drive.specs.declared.fault.DriveFault.{DriveFault}
 use Rattle.ckrt_drive.specs.declared.fault.DriveFault.TheVariants as drive
+use Rattle.ckrt_history.specs.declared.fault.HistoryFault.{HistoryFault}
+use Rattle.ckrt_history.specs.declared.fault.HistoryFault.TheVariants as history
 use Rattle.ckrt_main.specs.declared.fault.ServeFault.{ServeFault}
 use Rattle.ckrt_main.specs.declared.fault.ServeFault.TheVariants as serve
 
@@ -54,9 +56,17 @@ name_of_drive drive.OutputFull = codes "OutputFull"
 name_of_drive drive.GenerationsUsed = codes "GenerationsUsed"
 name_of_drive (drive.Refused why) = codes "Refused"
 
+abbrev pub name_of_history : HistoryFault → List ℕ
+name_of_history history.NotAHistory = codes "NotAHistory"
+name_of_history history.Version = codes "Version"
+name_of_history history.Damaged = codes "Damaged"
+name_of_history history.Device = codes "Device"
+name_of_history history.OutOfMemory = codes "OutOfMemory"
+
 abbrev pub name_of : JobFault → List ℕ
 name_of (job.File at fault.OutOfMemory) = codes "OutOfMemory"
 name_of (job.File at fault.NotADisk) = codes "NotADisk"
+name_of (job.File at fault.NotAHistory) = codes "NotAHistory"
 name_of (job.File at why) = codes "File"
 name_of job.OutOfMemory = codes "OutOfMemory"
 name_of job.ShadowFull = codes "ShadowFull"
@@ -78,3 +88,7 @@ name_of job.Unrecorded = codes "Range"
 name_of job.OlderDiffers = codes "OlderDiffers"
 name_of job.RunTooLong = codes "RunTooLong"
 name_of job.InputTooLong = codes "InputTooLong"
+name_of (job.History f) = name_of_history f
+name_of job.HistoryFull = codes "TooSmall"
+name_of job.HistoryBehind = codes "HistoryBehind"
+name_of job.HistoryDiffers = codes "HistoryDiffers"

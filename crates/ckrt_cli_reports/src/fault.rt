@@ -1,11 +1,12 @@
 //! Why a job wasn't done.
 ghost use Rattle.std.specs.Prelude.{◌≡◌};
-ghost use Rattle.ckrt_cli_reports.specs.Names.{name_of, name_of_drive, name_of_look};
+ghost use Rattle.ckrt_cli_reports.specs.Names.{name_of, name_of_drive, name_of_history, name_of_look};
 
 use crate::lengths::{InputLengths, OutputLengths};
 use crate::notes::{ProgramNotes, ScheduleNotes};
 use ckrt_cli_files::{FileFault, JobFile, OutputReason};
 use ckrt_drive::DriveFault;
+use ckrt_history::HistoryFault;
 use ckrt_inspect::InspectFault;
 use ckrt_main::ServeFault;
 use ckrt_recovery::{Config, FormatFault, RecoverFault};
@@ -55,6 +56,14 @@ pub enum JobFault {
     RunTooLong,
     /// The file of the input of a hunt has more bytes than a hunt gives.
     InputTooLong,
+    /// Nothing was read of the history, or it doesn't grow.
+    History(HistoryFault),
+    /// The file of the history can't have so many bytes.
+    HistoryFull,
+    /// The disk no longer has the events after the history's last one.
+    HistoryBehind,
+    /// The history is of another program than the disk, or has other events, or more.
+    HistoryDiffers,
 }
 
 /// What is said where the disk failed a call.
@@ -203,7 +212,7 @@ const SHORT_ADVICE: &str = "give the file that it had before, whole";
 
 /// What is said of a disk that hasn't recorded a stretch of events.
 const STRETCH_ADVICE: &str =
-    "it hasn't recorded all events of --from and --to, no longer or not yet; without these it tells all that it has";
+    "it hasn't recorded all of these events, no longer or not yet; without --from, --to and --at it tells what it has";
 
 /// What is said of a disk whose older journal doesn't lead to its last checkpoint, or of whose events one isn't accepted.
 const OLDER_ADVICE: &str =
@@ -215,6 +224,42 @@ const RUN_ADVICE: &str =
 
 /// What is said of an input that is longer than a hunt gives.
 const LONG_ADVICE: &str = "a hunt gives at most 1048576 bytes; give the first ones, by `head -c`";
+
+/// What is said of a history that the disk has left behind.
+const BEHIND_ADVICE: &str =
+    "the disk no longer has the events after its last one; keep it, and begin another in a new file";
+
+/// What is said of a history that isn't the disk's.
+const OTHER_ADVICE: &str =
+    "it is of another program, or of another run of it, or the disk is an older copy; give the disk's own, or a new file";
+
+/// What is said of a fault of a history.
+fn history_advice(fault: HistoryFault) -> &'static str {
+    match fault {
+        HistoryFault::NotAHistory => FileFault::NotAHistory.text(),
+        HistoryFault::Version => "another version of ckrt made it (docs/HISTORIES.md)",
+        HistoryFault::Damaged => {
+            "it has bytes that ckrt doesn't leave; keep it, and begin another in a new file (docs/HISTORIES.md)"
+        }
+        HistoryFault::Device => {
+            "a read, write or sync failed, or its file was cut short; look after its device and the room there and give the same command again, or begin another in a new file"
+        }
+        HistoryFault::OutOfMemory => FileFault::OutOfMemory.text(),
+    }
+}
+
+/// The name of a fault of a history.
+fn history_name(fault: HistoryFault) -> &'static str
+    ensures { result.now ≡ name_of_history fault }
+{
+    match fault {
+        HistoryFault::NotAHistory => "NotAHistory",
+        HistoryFault::Version => "Version",
+        HistoryFault::Damaged => "Damaged",
+        HistoryFault::Device => "Device",
+        HistoryFault::OutOfMemory => "OutOfMemory",
+    }
+}
 
 /// What is said of an output whose file has another length than that of the disk, behind its numbers.
 fn lengths_advice(lengths: OutputLengths) -> &'static str {
@@ -245,6 +290,7 @@ impl JobFault {
         match self {
             JobFault::File(_, FileFault::OutOfMemory) => "OutOfMemory",
             JobFault::File(_, FileFault::NotADisk) => "NotADisk",
+            JobFault::File(_, FileFault::NotAHistory) => "NotAHistory",
             JobFault::File(_, _) => "File",
             JobFault::OutOfMemory
             | JobFault::Format(FormatFault::OutOfMemory)
@@ -279,6 +325,10 @@ impl JobFault {
             JobFault::OlderDiffers => "OlderDiffers",
             JobFault::RunTooLong => "RunTooLong",
             JobFault::InputTooLong => "InputTooLong",
+            JobFault::History(fault) => history_name(fault),
+            JobFault::HistoryFull => "TooSmall",
+            JobFault::HistoryBehind => "HistoryBehind",
+            JobFault::HistoryDiffers => "HistoryDiffers",
         }
     }
 
@@ -306,6 +356,10 @@ impl JobFault {
             JobFault::OlderDiffers => OLDER_ADVICE,
             JobFault::RunTooLong => RUN_ADVICE,
             JobFault::InputTooLong => LONG_ADVICE,
+            JobFault::History(fault) => history_advice(fault),
+            JobFault::HistoryFull => drive_advice(DriveFault::OutputFull),
+            JobFault::HistoryBehind => BEHIND_ADVICE,
+            JobFault::HistoryDiffers => OTHER_ADVICE,
         }
     }
 
@@ -344,6 +398,15 @@ impl JobFault {
             JobFault::InputTooShort(_) | JobFault::InputTooLong => Some(JobFile::Input),
             JobFault::Drive(fault) => Some(drive_file(fault)),
             JobFault::RunTooLong => Some(JobFile::Making),
+            JobFault::History(
+                HistoryFault::NotAHistory
+                | HistoryFault::Version
+                | HistoryFault::Damaged
+                | HistoryFault::Device,
+            )
+            | JobFault::HistoryFull
+            | JobFault::HistoryBehind
+            | JobFault::HistoryDiffers => Some(JobFile::History),
             _ => None,
         }
     }

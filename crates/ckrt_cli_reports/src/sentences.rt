@@ -275,13 +275,28 @@ const DISK_IN_FOLDER: &str = "the disk of that run, in ";
 /// What stands for the path of an output that is printed.
 const STANDARD_OUTPUT: &str = "(standard output)";
 
+/// The path in the place of the disk's, and whether it is that of a history, of a job that looks back.
+fn looked_at<'a>(job: &Job<'a>) -> Option<(&'a str, bool)> {
+    match job {
+        Job::Inspect(job) => Some((job.disk, job.history)),
+        Job::Calls(job) => Some((job.disk, job.history)),
+        Job::Debug(job) => Some((job.disk, job.history)),
+        Job::Races(job) | Job::Check(job) => Some((job.stretch.disk, job.stretch.history)),
+        Job::Timeline(job) => Some((job.stretch.disk, job.stretch.history)),
+        Job::Profile(job) => Some((job.stretch.disk, job.stretch.history)),
+        _ => None,
+    }
+}
+
 /// The path that the words give for a file of their job; empty where they give none, but of an output that is printed.
 fn path<'a>(job: &Job<'a>, file: JobFile) -> &'a str {
+    if let Some((path, _)) = looked_at(job) {
+        return path;
+    }
     match (job, file) {
         (Job::Format(job), JobFile::Image) => job.image,
         (Job::Format(job), JobFile::Disk) => job.disk,
         (Job::Run(disk), JobFile::Disk) => disk,
-        (Job::Inspect(job), JobFile::Disk) => job.disk,
         (Job::Drive(job), JobFile::Disk) => job.disk,
         (Job::Drive(job), JobFile::Output) => job.output.unwrap_or(STANDARD_OUTPUT),
         (Job::Drive(job), JobFile::Making) => job.disk,
@@ -289,12 +304,8 @@ fn path<'a>(job: &Job<'a>, file: JobFile) -> &'a str {
         (Job::Drive(job), JobFile::Input) => job.input.unwrap_or(""),
         (Job::Core(job), JobFile::Disk) => job.disk,
         (Job::Core(job), JobFile::Core) => job.file,
-        (Job::Calls(job), JobFile::Disk) => job.disk,
-        (Job::Debug(job), JobFile::Disk) => job.disk,
-        (Job::Races(job), JobFile::Disk) => job.stretch.disk,
-        (Job::Check(job), JobFile::Disk) => job.stretch.disk,
-        (Job::Timeline(job), JobFile::Disk) => job.stretch.disk,
-        (Job::Profile(job), JobFile::Disk) => job.stretch.disk,
+        (Job::History(job), JobFile::History) => job.file,
+        (Job::History(job), JobFile::Disk) => job.disk.unwrap_or(""),
         (Job::Hunt(job), JobFile::Image) => job.image,
         (Job::Hunt(job), JobFile::Disk) => job.keep.unwrap_or(""),
         (Job::Hunt(job), JobFile::Making) => job.keep.unwrap_or(""),
@@ -312,9 +323,15 @@ fn is_into_folder(job: &Job<'_>) -> bool {
     }
 }
 
+/// Whether a job looks back at a history.
+fn is_of_history(job: &Job<'_>) -> bool {
+    matches!(looked_at(job), Some((_, true)))
+}
+
 /// What the file of a fault is, its path, and what stands behind that. Which disk of a folder it is says the line of the run that isn't kept.
 pub(crate) fn subject_of<'a>(job: &Job<'a>, file: JobFile) -> [Piece<'a>; 4] {
     let (text, ending) = match file {
+        JobFile::Disk if is_of_history(job) => (JobFile::History.text(), ""),
         JobFile::Making if is_into_folder(job) => (MADE_IN_FOLDER, ""),
         JobFile::Disk if is_into_folder(job) => (DISK_IN_FOLDER, ""),
         _ => (file.text(), file.ending()),

@@ -17,7 +17,7 @@ use Rattle.clap.specs.declared.builder.value_parser.ValueParser.TheVariants as v
 use Rattle.clap.proofs.CallerReads.{signed_reads}
 use Rattle.clap.proofs.ValueTestLemmas.{accepts-Accepts}
 use Rattle.ckrt_cli_words.specs.Commands.{ckrt_app}
-use Rattle.ckrt_cli_words.specs.Jobs.{DiskStretch, Request, calls, check, core, debug, asks_both_forms, disk_stretch_in, drive, flag_in, form_of, format, has_both_forms, hunt, inspect, profile, races, run, number_in, number_of, place_in, request_in, sizes_in, timeline}
+use Rattle.ckrt_cli_words.specs.Jobs.{DiskStretch, Request, calls, check, core, debug, asks_both_forms, disk_stretch_in, drive, flag_in, form_of, format, has_both_forms, history, hunt, inspect, profile, races, run, number_in, number_of, place_in, request_in, sizes_in, timeline}
 use Rattle.ckrt_cli_words.specs.declared.job.ProfileForm.{ProfileForm}
 use Rattle.ckrt_cli_words.specs.declared.job.ProfileForm.TheVariants as form
 use Rattle.clap.proofs.WalkLemmas.{both}
@@ -64,6 +64,9 @@ hunt_shape = unwrap_or (slice_get built_app.subs 10) built_app.top
 abbrev check_shape : Shape
 check_shape = unwrap_or (slice_get built_app.subs 11) built_app.top
 
+abbrev history_shape : Shape
+history_shape = unwrap_or (slice_get built_app.subs 12) built_app.top
+
 format_rules : AreRules format_shape refl format_shape.rules
 format_rules = ((refl, inl (refl, refl)), ((refl, inl (refl, refl)), ((refl, inl (refl, refl)), ((refl, inl (refl, refl)), ((refl, inl (refl, refl)), ((refl, inl (refl, refl)), ((refl, inr (inl refl)), tt)))))))
 
@@ -71,7 +74,7 @@ run_rules : AreRules run_shape refl run_shape.rules
 run_rules = ((refl, inl (refl, refl)), ((refl, inr (inl refl)), tt))
 
 inspect_rules : AreRules inspect_shape refl inspect_shape.rules
-inspect_rules = ((refl, inl (refl, refl)), ((refl, inl (refl, refl)), ((refl, inr (inr (refl, (_, [], refl)))), ((refl, inl (refl, refl)), ((refl, inr (inl refl)), tt)))))
+inspect_rules = ((refl, inl (refl, refl)), ((refl, inr (inr (refl, (_, [], refl)))), ((refl, inl (refl, refl)), ((refl, inr (inr (refl, (_, [], refl)))), ((refl, inl (refl, refl)), ((refl, inr (inl refl)), tt))))))
 
 drive_rules : AreRules drive_shape refl drive_shape.rules
 drive_rules = ((refl, inl (refl, refl)), ((refl, inl (refl, refl)), ((refl, inl (refl, refl)), ((refl, inl (refl, refl)), ((refl, inl (refl, refl)), ((refl, inl (refl, refl)), ((refl, inl (refl, refl)), ((refl, inl (refl, refl)), ((refl, inl (refl, refl)), ((refl, inl (refl, refl)), ((refl, inl (refl, refl)), ((refl, inl (refl, refl)), ((refl, inr (inr (refl, (_, [], refl)))), ((refl, inl (refl, refl)), ((refl, inl (refl, refl)), ((refl, inl (refl, refl)), ((refl, inl (refl, refl)), ((refl, inl (refl, refl)), ((refl, inr (inl refl)), tt)))))))))))))))))))
@@ -80,25 +83,28 @@ core_rules : AreRules core_shape refl core_shape.rules
 core_rules = ((refl, inl (refl, refl)), ((refl, inl (refl, refl)), ((refl, inl (refl, refl)), ((refl, inr (inl refl)), tt))))
 
 calls_rules : AreRules calls_shape refl calls_shape.rules
-calls_rules = ((refl, inl (refl, refl)), ((refl, inl (refl, refl)), ((refl, inl (refl, refl)), ((refl, inl (refl, refl)), ((refl, inl (refl, refl)), ((refl, inr (inl refl)), tt))))))
+calls_rules = ((refl, inl (refl, refl)), ((refl, inr (inr (refl, (_, [], refl)))), ((refl, inl (refl, refl)), ((refl, inl (refl, refl)), ((refl, inl (refl, refl)), ((refl, inl (refl, refl)), ((refl, inr (inl refl)), tt)))))))
 
 debug_rules : AreRules debug_shape refl debug_shape.rules
-debug_rules = ((refl, inl (refl, refl)), ((refl, inl (refl, refl)), ((refl, inr (inl refl)), tt)))
+debug_rules = ((refl, inl (refl, refl)), ((refl, inr (inr (refl, (_, [], refl)))), ((refl, inl (refl, refl)), ((refl, inr (inl refl)), tt))))
 
 races_rules : AreRules races_shape refl races_shape.rules
-races_rules = ((refl, inl (refl, refl)), ((refl, inl (refl, refl)), ((refl, inl (refl, refl)), ((refl, inl (refl, refl)), ((refl, inl (refl, refl)), ((refl, inl (refl, refl)), ((refl, inr (inl refl)), tt)))))))
+races_rules = ((refl, inl (refl, refl)), ((refl, inr (inr (refl, (_, [], refl)))), ((refl, inl (refl, refl)), ((refl, inl (refl, refl)), ((refl, inl (refl, refl)), ((refl, inl (refl, refl)), ((refl, inl (refl, refl)), ((refl, inr (inl refl)), tt))))))))
 
 check_rules : AreRules check_shape refl check_shape.rules
-check_rules = ((refl, inl (refl, refl)), ((refl, inl (refl, refl)), ((refl, inl (refl, refl)), ((refl, inl (refl, refl)), ((refl, inl (refl, refl)), ((refl, inl (refl, refl)), ((refl, inr (inl refl)), tt)))))))
+check_rules = ((refl, inl (refl, refl)), ((refl, inr (inr (refl, (_, [], refl)))), ((refl, inl (refl, refl)), ((refl, inl (refl, refl)), ((refl, inl (refl, refl)), ((refl, inl (refl, refl)), ((refl, inl (refl, refl)), ((refl, inr (inl refl)), tt))))))))
 
 timeline_rules : AreRules timeline_shape refl timeline_shape.rules
-timeline_rules = ((refl, inl (refl, refl)), ((refl, inl (refl, refl)), ((refl, inl (refl, refl)), ((refl, inl (refl, refl)), ((refl, inl (refl, refl)), ((refl, inl (refl, refl)), ((refl, inr (inr (refl, (_, [], refl)))), ((refl, inr (inl refl)), tt))))))))
+timeline_rules = ((refl, inl (refl, refl)), ((refl, inr (inr (refl, (_, [], refl)))), ((refl, inl (refl, refl)), ((refl, inl (refl, refl)), ((refl, inl (refl, refl)), ((refl, inl (refl, refl)), ((refl, inl (refl, refl)), ((refl, inr (inr (refl, (_, [], refl)))), ((refl, inr (inl refl)), tt)))))))))
 
 profile_rules : AreRules profile_shape refl profile_shape.rules
-profile_rules = ((refl, inl (refl, refl)), ((refl, inl (refl, refl)), ((refl, inl (refl, refl)), ((refl, inl (refl, refl)), ((refl, inl (refl, refl)), ((refl, inr (inr (refl, (_, [], refl)))), ((refl, inr (inr (refl, (_, [], refl)))), ((refl, inr (inl refl)), tt))))))))
+profile_rules = ((refl, inl (refl, refl)), ((refl, inr (inr (refl, (_, [], refl)))), ((refl, inl (refl, refl)), ((refl, inl (refl, refl)), ((refl, inl (refl, refl)), ((refl, inl (refl, refl)), ((refl, inr (inr (refl, (_, [], refl)))), ((refl, inr (inr (refl, (_, [], refl)))), ((refl, inr (inl refl)), tt)))))))))
 
 hunt_rules : AreRules hunt_shape refl hunt_shape.rules
 hunt_rules = ((refl, inl (refl, refl)), ((refl, inl (refl, refl)), ((refl, inl (refl, refl)), ((refl, inl (refl, refl)), ((refl, inl (refl, refl)), ((refl, inl (refl, refl)), ((refl, inl (refl, refl)), ((refl, inr (inr (refl, (_, [], refl)))), ((refl, inr (inr (refl, (_, [], refl)))), ((refl, inl (refl, refl)), ((refl, inr (inr (refl, (_, [], refl)))), ((refl, inr (inr (refl, (_, [], refl)))), ((refl, inl (refl, refl)), ((refl, inl (refl, refl)), ((refl, inl (refl, refl)), ((refl, inl (refl, refl)), ((refl, inl (refl, refl)), ((refl, inr (inl refl)), tt))))))))))))))))))
+
+history_rules : AreRules history_shape refl history_shape.rules
+history_rules = ((refl, inl (refl, refl)), ((refl, inl (refl, refl)), ((refl, inr (inl refl)), tt)))
 
 number_there : (v : Text) → accepts false (vp.Signed (pos 0) (pos 4294967295)) v ≡ true → (n : ℕ) × (number_of 32 (without_minus v) ≡ Some n)
 number_there v pass =
@@ -119,7 +125,7 @@ inspect_named words pass =
     let kept = level_kept inspect_shape refl inspect_rules [] nothing_held words false pass tt in
     let given = has_required inspect_shape rows false (level_valid inspect_shape [] nothing_held words false pass) refl in
     let disk = value_there inspect_shape refl (codes "disk") rows _ kept refl (given_found (codes "disk") rows (both (is_given (codes "disk") rows) true given).0) in
-    (inspect (record { disk = disk.0; at = place_in (codes "at") rows; code = flag_in (codes "code") rows }), rw disk.1 refl)
+    (inspect (record { disk = disk.0; history = flag_in (codes "history") rows; at = place_in (codes "at") rows; code = flag_in (codes "code") rows }), rw disk.1 refl)
 
 core_named : (words : List Text) → level_passes core_shape [] nothing_held words false ≡ true → (r : Request) × (request_in (rows_at core_shape words) ≡ Some r)
 core_named words pass =
@@ -135,7 +141,7 @@ stretch_there : (shape : Shape) (once : shape.args_override_self ≡ false) (row
     → is_given (codes "disk") rows ≡ true → (s : DiskStretch) × (disk_stretch_in rows ≡ Some s)
 stretch_there shape once rows a kept found given =
     let disk = value_there shape once (codes "disk") rows a kept found (given_found (codes "disk") rows given) in
-    (record { disk = disk.0; from = place_in (codes "from") rows; to = place_in (codes "to") rows; last = place_in (codes "last") rows }, rw disk.1 refl)
+    (record { disk = disk.0; history = flag_in (codes "history") rows; from = place_in (codes "from") rows; to = place_in (codes "to") rows; last = place_in (codes "last") rows }, rw disk.1 refl)
 
 calls_named : (words : List Text) → level_passes calls_shape [] nothing_held words false ≡ true → (r : Request) × (request_in (rows_at calls_shape words) ≡ Some r)
 calls_named words pass =
@@ -151,7 +157,7 @@ debug_named words pass =
     let kept = level_kept debug_shape refl debug_rules [] nothing_held words false pass tt in
     let given = has_required debug_shape rows false (level_valid debug_shape [] nothing_held words false pass) refl in
     let disk = value_there debug_shape refl (codes "disk") rows _ kept refl (given_found (codes "disk") rows (both (is_given (codes "disk") rows) true given).0) in
-    (debug (record { disk = disk.0; at = place_in (codes "at") rows }), rw disk.1 refl)
+    (debug (record { disk = disk.0; history = flag_in (codes "history") rows; at = place_in (codes "at") rows }), rw disk.1 refl)
 
 races_named : (words : List Text) → level_passes races_shape [] nothing_held words false ≡ true → (r : Request) × (request_in (rows_at races_shape words) ≡ Some r)
 races_named words pass =
@@ -228,7 +234,7 @@ timeline_named words pass =
     let given = has_required timeline_shape rows false (level_valid timeline_shape [] nothing_held words false pass) refl in
     let stretch = stretch_there timeline_shape refl rows _ kept refl (both (is_given (codes "disk") rows) true given).0 in
     let before = (settled timeline_shape.rules end).rows in
-    let width = number_at timeline_shape refl (codes "width") rows _ kept refl refl (row_found (codes "width") rows (defaults_give (slots timeline_shape 5) (after timeline_shape 6) (slot timeline_shape 5) before refl)) in
+    let width = number_at timeline_shape refl (codes "width") rows _ kept refl refl (row_found (codes "width") rows (defaults_give (slots timeline_shape 6) (after timeline_shape 7) (slot timeline_shape 6) before refl)) in
     (timeline (record { stretch = stretch.0; width = width.0; json = flag_in (codes "json") rows }), rw (stretch.1, width.1) refl)
 
 hunt_named : (words : List Text) → level_passes hunt_shape [] nothing_held words false ≡ true → (r : Request) × (request_in (rows_at hunt_shape words) ≡ Some r)
@@ -266,6 +272,14 @@ drive_named words pass =
     let output = first_of (codes "output") rows in
     let status = first_of (codes "status") rows in
     (drive (record { disk = disk.0; image = first_of (codes "image") rows; sizes = sizes_in rows; input = input; input_from = input_from; output = output; turn = turn.0; rounds = rounds.0; events = events; seed = seed; other_schedule = flag_in (codes "other-schedule") rows; progress = progress; status = status; from = place_in (codes "from") rows }), rw (disk.1, turn.1, rounds.1) refl)
+
+history_named : (words : List Text) → level_passes history_shape [] nothing_held words false ≡ true → (r : Request) × (request_in (rows_at history_shape words) ≡ Some r)
+history_named words pass =
+    let rows = finished history_shape.rules (walk history_shape.rules [] nothing_held words).held in
+    let kept = level_kept history_shape refl history_rules [] nothing_held words false pass tt in
+    let given = has_required history_shape rows false (level_valid history_shape [] nothing_held words false pass) refl in
+    let file = value_there history_shape refl (codes "file") rows _ kept refl (given_found (codes "file") rows (both (is_given (codes "file") rows) true given).0) in
+    (history (record { file = file.0; disk = first_of (codes "disk") rows }), rw file.1 refl)
 
 -- words that the command takes ask for something, but for both forms of a profile
 abbrev IsNamed : Shape → Type 0
@@ -313,7 +327,10 @@ all_named = (
               without_forms debug_shape debug_named,
               (
                 without_forms races_shape races_named,
-                (without_forms timeline_shape timeline_named, (profile_named, (without_forms hunt_shape hunt_named, (without_forms check_shape check_named, tt)))),
+                (
+                  without_forms timeline_shape timeline_named,
+                  (profile_named, (without_forms hunt_shape hunt_named, (without_forms check_shape check_named, (without_forms history_shape history_named, tt)))),
+                ),
               ),
             ),
           ),

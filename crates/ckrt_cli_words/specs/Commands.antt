@@ -1,9 +1,9 @@
 -- The program's command line, as `clap` sees it: `format DISK IMAGE [--pages P] [--harts H] [--journal J] [--env NAME=VALUE]`, `run DISK`,
--- `inspect DISK [--at K] [--code] [--names FILE]`, `core DISK FILE [--at K]`, `calls DISK [--from K] [--to K] [--last N] [--names FILE]`,
--- `debug DISK [--at K]`, `races DISK [--from K] [--to K] [--last N] [--names FILE] [--memory BYTES]`,
--- `check DISK [--from K] [--to K] [--last N] [--names FILE] [--memory BYTES]`,
--- `timeline DISK [--from K] [--to K] [--last N] [--names FILE] [--width W] [--json]`,
--- `profile DISK [--from K] [--to K] [--last N] [--names FILE] [--folded | --callgrind]`,
+-- `inspect DISK [--history] [--at K] [--code] [--names FILE]`, `core DISK FILE [--at K]`, `calls DISK [--history] [--from K] [--to K] [--last N] [--names FILE]`,
+-- `debug DISK [--history] [--at K]`, `races DISK [--history] [--from K] [--to K] [--last N] [--names FILE] [--memory BYTES]`,
+-- `check DISK [--history] [--from K] [--to K] [--last N] [--names FILE] [--memory BYTES]`,
+-- `timeline DISK [--history] [--from K] [--to K] [--last N] [--names FILE] [--width W] [--json]`,
+-- `profile DISK [--history] [--from K] [--to K] [--last N] [--names FILE] [--folded | --callgrind]`, `history FILE [--disk DISK]`,
 -- `hunt IMAGE [--seeds A-B | --seconds S] [--pages P] [--harts H] [--input FILE] [--steps N] [--races | --check] [--memory BYTES] [--ignore-output] [--rows] [--keep DISK | FOLDER/] [--table FILE]
 -- [--progress SECONDS] [--names FILE] [--env NAME=VALUE]` and
 -- `drive DISK [--image IMAGE] [--pages P] [--harts H] [--journal J] [--input FILE] [--input-from OFFSET] [--output FILE] [--turn N] [--rounds-per-commit R] [--events N] [--seed S] [--other-schedule]
@@ -65,8 +65,9 @@ run_app = with_rule (new_app (codes "run")) (needed_rule (codes "disk"))
 
 abbrev pub inspect_app : App
 inspect_app =
-    with_rule (with_rule (with_rule (with_rule (new_app (codes "inspect"))
+    with_rule (with_rule (with_rule (with_rule (with_rule (new_app (codes "inspect"))
     (needed_rule (codes "disk")))
+    (flag_rule (codes "history")))
     (place_rule (codes "at")))
     (flag_rule (codes "code")))
     (option_rule (codes "names"))
@@ -81,8 +82,9 @@ core_app =
 -- the words of a stretch of what a disk has recorded, behind the name of a command
 abbrev pub stretch_app : App → App
 stretch_app named =
-    with_rule (with_rule (with_rule (with_rule (with_rule named
+    with_rule (with_rule (with_rule (with_rule (with_rule (with_rule named
     (needed_rule (codes "disk")))
+    (flag_rule (codes "history")))
     (place_rule (codes "from")))
     (place_rule (codes "to")))
     (place_rule (codes "last")))
@@ -93,8 +95,9 @@ calls_app = stretch_app (new_app (codes "calls"))
 
 abbrev pub debug_app : App
 debug_app =
-    with_rule (with_rule (new_app (codes "debug"))
+    with_rule (with_rule (with_rule (new_app (codes "debug"))
     (needed_rule (codes "disk")))
+    (flag_rule (codes "history")))
     (place_rule (codes "at"))
 
 -- and how many bytes a shadow may take
@@ -141,6 +144,12 @@ hunt_app =
     (option_rule (codes "names")))
     (option_rule (codes "env"))
 
+abbrev pub history_app : App
+history_app =
+    with_rule (with_rule (new_app (codes "history"))
+    (needed_rule (codes "file")))
+    (option_rule (codes "disk"))
+
 abbrev pub drive_app : App
 drive_app =
     with_rule (with_rule (with_rule (with_rule (with_rule (with_rule (with_rule (with_rule (with_rule (with_rule (with_rule (with_rule (with_rule
@@ -178,4 +187,4 @@ app_with commands = fold (λ whole command. with_subcommand whole command.top) b
 abbrev pub ckrt_app : App
 ckrt_app =
     app_with (format_app ∷ run_app ∷ inspect_app ∷ drive_app ∷ core_app ∷ calls_app ∷ debug_app
-    ∷ races_app ∷ timeline_app ∷ profile_app ∷ hunt_app ∷ check_app ∷ [])
+    ∷ races_app ∷ timeline_app ∷ profile_app ∷ hunt_app ∷ check_app ∷ history_app ∷ [])

@@ -16,6 +16,7 @@ use Rattle.ckrt_cli_words.specs.declared.job.StretchJob.{StretchJob}
 use Rattle.ckrt_cli_words.specs.declared.job.CoreJob.{CoreJob}
 use Rattle.ckrt_cli_words.specs.declared.job.DebugJob.{DebugJob}
 use Rattle.ckrt_cli_words.specs.declared.job.HuntJob.{HuntJob}
+use Rattle.ckrt_cli_words.specs.declared.job.HistoryJob.{HistoryJob}
 use Rattle.ckrt_cli_words.specs.declared.job.DriveJob.{DriveJob}
 use Rattle.ckrt_cli_words.specs.declared.job.TimelineJob.{TimelineJob}
 use Rattle.ckrt_cli_words.specs.declared.job.ProfileForm.{ProfileForm}
@@ -34,6 +35,7 @@ pub record Formatting : Type 0 where
 -- what `inspect` shows: which disk, after how many events, and whether with instructions
 pub record Inspection : Type 0 where
   pub disk : Text
+  pub history : Bool
   pub at : Option ℕ
   pub code : Bool
 
@@ -43,9 +45,11 @@ pub record CoreMaking : Type 0 where
   pub file : Text
   pub at : Option ℕ
 
--- a stretch of what a disk has recorded: which disk, behind how many events it begins, and behind how many it ends, and how many of its last events are told
+-- a stretch of what a disk or a history has recorded: of which, whether that is a history, behind how many events it begins, and behind how many
+-- it ends, and how many of its last events are told
 pub record DiskStretch : Type 0 where
   pub disk : Text
+  pub history : Bool
   pub from : Option ℕ
   pub to : Option ℕ
   pub last : Option ℕ
@@ -55,9 +59,10 @@ pub record Shadowing : Type 0 where
   pub stretch : DiskStretch
   pub memory : Option ℕ
 
--- what `debug` serves to a debugger: which disk, and behind how many events it begins
+-- what `debug` serves to a debugger: which disk or history, whether it is a history, and behind how many events it begins
 pub record Debugging : Type 0 where
   pub disk : Text
+  pub history : Bool
   pub at : Option ℕ
 
 -- what `timeline` draws: which stretch, how wide the picture is, and whether trace events stand in its place
@@ -110,6 +115,11 @@ pub record Driving : Type 0 where
   pub status : Option Text
   pub from : Option ℕ
 
+-- what `history` looks at: which file, and which disk it is brought up to, if any
+pub record HistoryKeeping : Type 0 where
+  pub file : Text
+  pub disk : Option Text
+
 -- a job, by its texts and numbers alone
 pub data Request : Type 0 where
   stored : Request
@@ -126,6 +136,7 @@ pub data Request : Type 0 where
   profile : Profiling → Request
   hunt : Hunting → Request
   check : Shadowing → Request
+  history : HistoryKeeping → Request
 
 abbrev pub formatting_of : FormatJob → Formatting
 formatting_of f =
@@ -138,19 +149,20 @@ formatting_of f =
     }
 
 abbrev pub inspection_of : InspectJob → Inspection
-inspection_of i = record { disk = i.disk.now; at = i.at; code = i.code }
+inspection_of i =
+    record { disk = i.disk.now; history = i.history; at = i.at; code = i.code }
 
 abbrev pub core_making_of : CoreJob → CoreMaking
 core_making_of c = record { disk = c.disk.now; file = c.file.now; at = c.at }
 
 abbrev pub disk_stretch_of : StretchJob → DiskStretch
-disk_stretch_of s = record { disk = s.disk.now; from = s.from; to = s.to; last = s.last }
+disk_stretch_of s = record { disk = s.disk.now; history = s.history; from = s.from; to = s.to; last = s.last }
 
 abbrev pub shadowing_of : ShadowJob → Shadowing
 shadowing_of s = record { stretch = disk_stretch_of s.stretch; memory = s.memory }
 
 abbrev pub debugging_of : DebugJob → Debugging
-debugging_of d = record { disk = d.disk.now; at = d.at }
+debugging_of d = record { disk = d.disk.now; history = d.history; at = d.at }
 
 abbrev pub drawing_of : TimelineJob → Drawing
 drawing_of t = record { stretch = disk_stretch_of t.stretch; width = t.width; json = t.json }
@@ -195,6 +207,9 @@ driving_of d = record {
   from = d.from;
 }
 
+abbrev pub history_keeping_of : HistoryJob → HistoryKeeping
+history_keeping_of h = record { file = h.file.now; disk = option_map (λ path. path.now) h.disk }
+
 abbrev pub request_of : Job → Request
 request_of job.Stored = stored
 request_of job.Version = version
@@ -210,6 +225,7 @@ request_of (job.Timeline t) = timeline (drawing_of t)
 request_of (job.Profile p) = profile (profiling_of p)
 request_of (job.Hunt h) = hunt (hunting_of h)
 request_of (job.Check s) = check (shadowing_of s)
+request_of (job.History h) = history (history_keeping_of h)
 
 -- decimal digits, one or more, after a plus or not, of a number of so many bits
 abbrev pub is_number : ℕ → Text → Bool
@@ -250,7 +266,12 @@ formatting_in rows = do
 abbrev pub inspection_in : List Row → Option Inspection
 inspection_in rows = do
   disk ← first_of (codes "disk") rows
-  Some (record { disk = disk; at = place_in (codes "at") rows; code = flag_in (codes "code") rows })
+  Some (record {
+    disk = disk;
+    history = flag_in (codes "history") rows;
+    at = place_in (codes "at") rows;
+    code = flag_in (codes "code") rows;
+  })
 
 abbrev pub core_making_in : List Row → Option CoreMaking
 core_making_in rows = do
@@ -263,6 +284,7 @@ disk_stretch_in rows = do
   disk ← first_of (codes "disk") rows
   Some (record {
     disk = disk;
+    history = flag_in (codes "history") rows;
     from = place_in (codes "from") rows;
     to = place_in (codes "to") rows;
     last = place_in (codes "last") rows;
@@ -276,7 +298,7 @@ shadowing_in rows = do
 abbrev pub debugging_in : List Row → Option Debugging
 debugging_in rows = do
   disk ← first_of (codes "disk") rows
-  Some (record { disk = disk; at = place_in (codes "at") rows })
+  Some (record { disk = disk; history = flag_in (codes "history") rows; at = place_in (codes "at") rows })
 
 abbrev pub drawing_in : List Row → Option Drawing
 drawing_in rows = do
@@ -350,6 +372,11 @@ driving_in rows = do
     from = place_in (codes "from") rows;
   })
 
+abbrev pub history_keeping_in : List Row → Option HistoryKeeping
+history_keeping_in rows = do
+  file ← first_of (codes "file") rows
+  Some (record { file = file; disk = first_of (codes "disk") rows })
+
 -- what a command with these matches asks for
 abbrev pub request_in : Text × List Row → Option Request
 request_in p =
@@ -365,6 +392,7 @@ request_in p =
     else if bytes_eq p.0 (codes "profile") then option_map profile (profiling_in p.1)
     else if bytes_eq p.0 (codes "hunt") then option_map hunt (hunting_in p.1)
     else if bytes_eq p.0 (codes "check") then option_map check (shadowing_in p.1)
+    else if bytes_eq p.0 (codes "history") then option_map history (history_keeping_in p.1)
     else None
 
 -- `profile` with both of its forms: the only words that `clap` takes and that name no job

@@ -3,7 +3,7 @@ ghost use Rattle.std.specs.Prelude.{◌≡◌, ◌∷◌, [], IfOk, codes, false
 ghost use Rattle.std.specs.List.{list_all};
 ghost use Rattle.clap.specs.Words.{App, app_of, new_app, rule_of, with_rule, with_subcommand};
 ghost use Rattle.clap.specs.declared.builder.command.Command.TheViews.{out-Command};
-ghost use Rattle.ckrt_cli_words.specs.Commands.{app_with, bare_app, calls_app, check_app, ckrt_app, core_app, debug_app, drive_app, flag_rule, format_app, hunt_app, inspect_app, needed_rule, number_rule, option_rule, place_rule, profile_app, races_app, run_app, shadow_app, size_rule, stretch_app, timeline_app};
+ghost use Rattle.ckrt_cli_words.specs.Commands.{app_with, bare_app, calls_app, check_app, ckrt_app, core_app, debug_app, drive_app, flag_rule, format_app, history_app, hunt_app, inspect_app, needed_rule, number_rule, option_rule, place_rule, profile_app, races_app, run_app, shadow_app, size_rule, stretch_app, timeline_app};
 
 use clap::{Arg, ArgAction, Command, value_parser};
 use std::alloc::{AllocError, Global};
@@ -143,7 +143,7 @@ fn run_command<'a>(alloc: Global) -> Result<Command<'a>, AllocError>
         .arg(disk)
 }
 
-/// `inspect DISK [--at K] [--code] [--names FILE]`.
+/// `inspect DISK [--history] [--at K] [--code] [--names FILE]`.
 fn inspect_command<'a>(alloc: Global) -> Result<Command<'a>, AllocError>
     ensures app { IfOk result (λ c. app_of c ≡ inspect_app) }
     ensures local { IfOk result (λ c. (out-Command c).has_globals ≡ false) }
@@ -163,6 +163,7 @@ fn inspect_arguments<'a>(alloc: Global) -> Result<Vec<Arg<'a>>, AllocError>
 {
     let arguments = vec![in alloc;
         needed(alloc, "disk", "DISK", "A disk that `format` made"),
+        of_history(alloc),
         place(
             alloc,
             "at",
@@ -225,6 +226,18 @@ fn calls_command<'a>(alloc: Global) -> Result<Command<'a>, AllocError>
         .args(arguments)
 }
 
+/// Whether a history stands in the place of a disk.
+fn of_history<'a>(alloc: Global) -> Arg<'a>
+    ensures rule { rule_of result ≡ flag_rule (codes "history") }
+    ensures local { result.global ≡ false }
+{
+    flag(
+        alloc,
+        "history",
+        "DISK is a history, which `ckrt history` made",
+    )
+}
+
 /// Where a stretch begins.
 fn beginning<'a>(alloc: Global) -> Arg<'a>
     ensures rule { rule_of result ≡ place_rule (codes "from") }
@@ -262,6 +275,7 @@ fn stretch_arguments<'a>(alloc: Global) -> Result<Vec<Arg<'a>>, AllocError>
 {
     let arguments = vec![in alloc;
         needed(alloc, "disk", "DISK", "A disk that `format` made"),
+        of_history(alloc),
         beginning(alloc),
         end(alloc),
         latest(alloc),
@@ -291,6 +305,7 @@ fn shadow_arguments<'a>(alloc: Global) -> Result<Vec<Arg<'a>>, AllocError>
 {
     let arguments = vec![in alloc;
         needed(alloc, "disk", "DISK", "A disk that `format` made"),
+        of_history(alloc),
         beginning(alloc),
         end(alloc),
         latest(alloc),
@@ -300,7 +315,7 @@ fn shadow_arguments<'a>(alloc: Global) -> Result<Vec<Arg<'a>>, AllocError>
     Ok(arguments)
 }
 
-/// `debug DISK [--at K]`.
+/// `debug DISK [--history] [--at K]`.
 fn debug_command<'a>(alloc: Global) -> Result<Command<'a>, AllocError>
     ensures app { IfOk result (λ c. app_of c ≡ debug_app) }
     ensures local { IfOk result (λ c. (out-Command c).has_globals ≡ false) }
@@ -321,6 +336,7 @@ fn debug_arguments<'a>(alloc: Global) -> Result<Vec<Arg<'a>>, AllocError>
 {
     let arguments = vec![in alloc;
         needed(alloc, "disk", "DISK", "A disk that `format` made"),
+        of_history(alloc),
         place(
             alloc,
             "at",
@@ -379,6 +395,7 @@ fn timeline_arguments<'a>(alloc: Global) -> Result<Vec<Arg<'a>>, AllocError>
 {
     let arguments = vec![in alloc;
         needed(alloc, "disk", "DISK", "A disk that `format` made"),
+        of_history(alloc),
         beginning(alloc),
         end(alloc),
         latest(alloc),
@@ -420,6 +437,7 @@ fn profile_arguments<'a>(alloc: Global) -> Result<Vec<Arg<'a>>, AllocError>
 {
     let arguments = vec![in alloc;
         needed(alloc, "disk", "DISK", "A disk that `format` made"),
+        of_history(alloc),
         beginning(alloc),
         end(alloc),
         latest(alloc),
@@ -536,6 +554,43 @@ fn hunt_arguments<'a>(alloc: Global) -> Result<Vec<Arg<'a>>, AllocError>
         ),
         names(alloc),
         variable(alloc),
+    ]?;
+    Ok(arguments)
+}
+
+/// `history FILE [--disk DISK]`.
+fn history_command<'a>(alloc: Global) -> Result<Command<'a>, AllocError>
+    ensures app { IfOk result (λ c. app_of c ≡ history_app) }
+    ensures local { IfOk result (λ c. (out-Command c).has_globals ≡ false) }
+{
+    let arguments = history_arguments(alloc)?;
+    Command::new(alloc, "history")
+        .about(
+            "Keeps all events of a disk in a file, or tells how far that goes, as `ckrt history pi.history --disk pi.disk`",
+        )
+        .args(arguments)
+}
+
+/// What `history` is given.
+fn history_arguments<'a>(alloc: Global) -> Result<Vec<Arg<'a>>, AllocError>
+    ensures app { IfOk result (λ arguments.
+        fold with_rule (new_app (codes "history")) (map rule_of arguments.items)
+        ≡ history_app) }
+    ensures local { IfOk result (λ arguments. list_all (λ a. not a.global) arguments.items ≡ true) }
+{
+    let arguments = vec![in alloc;
+        needed(
+            alloc,
+            "file",
+            "FILE",
+            "The history; with --disk it is made where it is missing"
+        ),
+        option(
+            alloc,
+            "disk",
+            "DISK",
+            "Begin the history from this disk, or append what it lacks of the disk's events"
+        ),
     ]?;
     Ok(arguments)
 }
@@ -738,11 +793,22 @@ fn command_with_profile<'a>(alloc: Global) -> Result<Command<'a>, AllocError>
     with_command(with_timeline, profile_command(alloc))
 }
 
-/// The program's command line: with these, `hunt` and `check`.
-pub(crate) fn command<'a>(alloc: Global) -> Result<Command<'a>, AllocError>
-    ensures { IfOk result (λ c. app_of c ≡ ckrt_app) }
+/// The program with these, `hunt` and `check`.
+fn command_with_check<'a>(alloc: Global) -> Result<Command<'a>, AllocError>
+    ensures { IfOk result (λ c.
+        app_of c ≡ app_with
+        (format_app ∷ run_app ∷ inspect_app ∷ drive_app ∷ core_app ∷ calls_app ∷ debug_app
+        ∷ races_app ∷ timeline_app ∷ profile_app ∷ hunt_app ∷ check_app ∷ [])) }
 {
     let with_profile = command_with_profile(alloc)?;
     let with_hunt = with_command(with_profile, hunt_command(alloc))?;
     with_command(with_hunt, check_command(alloc))
+}
+
+/// The program's command line: with these, `history`.
+pub(crate) fn command<'a>(alloc: Global) -> Result<Command<'a>, AllocError>
+    ensures { IfOk result (λ c. app_of c ≡ ckrt_app) }
+{
+    let with_check = command_with_check(alloc)?;
+    with_command(with_check, history_command(alloc))
 }

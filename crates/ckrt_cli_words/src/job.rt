@@ -32,6 +32,8 @@ pub enum Job<'a> {
     Profile(ProfileJob<'a>),
     /// Run an image by one schedule after another: `hunt IMAGE`.
     Hunt(HuntJob<'a>),
+    /// Tell how far a history goes, or bring it up to its disk: `history FILE`.
+    History(HistoryJob<'a>),
 }
 
 /// What `format` makes. The numbers are as they were given, and may be out of a disk's ranges.
@@ -52,8 +54,10 @@ pub struct FormatJob<'a> {
 /// What `inspect` shows.
 #[derive(Clone, Copy, Debug, PartialEq, Eq)]
 pub struct InspectJob<'a> {
-    /// The path of the disk.
+    /// The path of the disk, or of the history.
     pub disk: &'a str,
+    /// Whether the path is that of a history.
+    pub history: bool,
     /// After how many events it is shown; after the last one where this isn't given.
     pub at: Option<u64>,
     /// Whether each thread's next instructions are shown too.
@@ -71,11 +75,13 @@ pub struct CoreJob<'a> {
     pub at: Option<u64>,
 }
 
-/// Which stretch of what a disk has recorded is told.
+/// Which stretch of what a disk or a history has recorded is told.
 #[derive(Clone, Copy, Debug, PartialEq, Eq)]
 pub struct StretchJob<'a> {
-    /// The path of the disk.
+    /// The path of the disk, or of the history.
     pub disk: &'a str,
+    /// Whether the path is that of a history.
+    pub history: bool,
     /// Behind how many events it begins; at the first one that the disk has where this isn't given.
     pub from: Option<u64>,
     /// Behind how many events it ends; at the last one where this isn't given.
@@ -96,8 +102,10 @@ pub struct ShadowJob<'a> {
 /// What `debug` serves.
 #[derive(Clone, Copy, Debug, PartialEq, Eq)]
 pub struct DebugJob<'a> {
-    /// The path of the disk.
+    /// The path of the disk, or of the history.
     pub disk: &'a str,
+    /// Whether the path is that of a history.
+    pub history: bool,
     /// Behind how many events the debugger begins; at the first one that the disk has where this isn't given.
     pub at: Option<u64>,
 }
@@ -167,6 +175,15 @@ pub struct HuntJob<'a> {
     pub table: Option<&'a str>,
     /// How many seconds lie at least between two lines that tell how far it is; this isn't given where no line does.
     pub progress: Option<u64>,
+}
+
+/// Which history is looked at or brought up.
+#[derive(Clone, Copy, Debug, PartialEq, Eq)]
+pub struct HistoryJob<'a> {
+    /// The path of the history.
+    pub file: &'a str,
+    /// The path of the disk that it is brought up to; this isn't given where it is only looked at.
+    pub disk: Option<&'a str>,
 }
 
 /// The sizes that a disk is asked to have. The numbers are as they were given, and may be out of a disk's ranges.

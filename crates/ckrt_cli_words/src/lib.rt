@@ -4,7 +4,7 @@
 //! that they give. Nothing is opened.
 //!
 //! Proved: where it answers Ok its job is the stored guest exactly for no words, the version for the one word `--version`,
-//! else what the command line's meaning in `clap` gives for the words: the command, DISK, IMAGE, each option's value or
+//! else what the command line's meaning in `clap` gives for the words: the command, DISK, IMAGE, FILE, each option's value or
 //! default. Usage is never answered for no words, nor for words that `clap` takes, but for `profile` with both of its forms. The file of names is the value of `--names`. The texts on usage are tested only.
 #![tactic(auto)]
 
@@ -14,7 +14,7 @@ mod matches;
 mod read;
 
 pub use job::{
-    CoreJob, DebugJob, DriveJob, FormatJob, HuntJob, InspectJob, Job, ProfileForm, ProfileJob,
-    ShadowJob, Sizes, StretchJob, TimelineJob, WordsFault,
+    CoreJob, DebugJob, DriveJob, FormatJob, HistoryJob, HuntJob, InspectJob, Job, ProfileForm,
+    ProfileJob, ShadowJob, Sizes, StretchJob, TimelineJob, WordsFault,
 };
 pub use read::{read_names, read_words};

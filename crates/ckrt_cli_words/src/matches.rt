@@ -1,11 +1,11 @@
 //! What the matches of a command line name.
 ghost use Rattle.std.specs.Prelude.{◌≡◌, codes, option_and_then, option_map};
 ghost use Rattle.clap.specs.Words.{first_of, found_of, rows_of, subcommand_rows_of};
-ghost use Rattle.ckrt_cli_words.specs.Jobs.{calls, check, core, core_making_in, core_making_of, debug, debugging_in, debugging_of, disk_stretch_in, disk_stretch_of, drawing_in, drawing_of, drive, driving_in, driving_of, flag_in, form_of, format, formatting_in, formatting_of, hunt, hunting_in, hunting_of, inspect, inspection_in, inspection_of, names_in, number_in, place_in, profile, profiling_in, profiling_of, races, request_in, request_of, run, shadowing_in, shadowing_of, sizes_in, timeline};
+ghost use Rattle.ckrt_cli_words.specs.Jobs.{calls, check, core, core_making_in, core_making_of, debug, debugging_in, debugging_of, disk_stretch_in, disk_stretch_of, drawing_in, drawing_of, drive, driving_in, driving_of, flag_in, form_of, format, formatting_in, formatting_of, history, history_keeping_in, history_keeping_of, hunt, hunting_in, hunting_of, inspect, inspection_in, inspection_of, names_in, number_in, place_in, profile, profiling_in, profiling_of, races, request_in, request_of, run, shadowing_in, shadowing_of, sizes_in, timeline};
 
 use crate::job::{
-    CoreJob, DebugJob, DriveJob, FormatJob, HuntJob, InspectJob, Job, ProfileForm, ProfileJob,
-    ShadowJob, Sizes, StretchJob, TimelineJob,
+    CoreJob, DebugJob, DriveJob, FormatJob, HistoryJob, HuntJob, InspectJob, Job, ProfileForm,
+    ProfileJob, ShadowJob, Sizes, StretchJob, TimelineJob,
 };
 use clap::ArgMatches;
 
@@ -46,6 +46,7 @@ fn inspection<'a>(matches: &ArgMatches<'a>) -> Option<InspectJob<'a>>
 {
     Some(InspectJob {
         disk: text(matches, "disk")?,
+        history: flag(matches, "history"),
         at: place(matches, "at"),
         code: flag(matches, "code"),
     })
@@ -68,10 +69,12 @@ fn stretch<'a>(matches: &ArgMatches<'a>) -> Option<StretchJob<'a>>
         ≡ disk_stretch_in (rows_of (found_of matches.now)) }
 {
     let disk = text(matches, "disk")?;
+    let history = flag(matches, "history");
     let (from, to) = (place(matches, "from"), place(matches, "to"));
     let last = place(matches, "last");
     Some(StretchJob {
         disk,
+        history,
         from,
         to,
         last,
@@ -92,8 +95,11 @@ fn shadowing<'a>(matches: &ArgMatches<'a>) -> Option<ShadowJob<'a>>
 fn debugging<'a>(matches: &ArgMatches<'a>) -> Option<DebugJob<'a>>
     ensures { option_map debugging_of result ≡ debugging_in (rows_of (found_of matches.now)) }
 {
-    let (disk, at) = (text(matches, "disk")?, place(matches, "at"));
-    Some(DebugJob { disk, at })
+    Some(DebugJob {
+        disk: text(matches, "disk")?,
+        history: flag(matches, "history"),
+        at: place(matches, "at"),
+    })
 }
 
 /// What `timeline` was given.
@@ -185,6 +191,17 @@ fn driving<'a>(matches: &ArgMatches<'a>) -> Option<DriveJob<'a>>
         progress: place(matches, "progress"),
         status: text(matches, "status"),
         from: place(matches, "from"),
+    })
+}
+
+/// What `history` was given.
+fn history_keeping<'a>(matches: &ArgMatches<'a>) -> Option<HistoryJob<'a>>
+    ensures { option_map history_keeping_of result
+        ≡ history_keeping_in (rows_of (found_of matches.now)) }
+{
+    Some(HistoryJob {
+        file: text(matches, "file")?,
+        disk: text(matches, "disk"),
     })
 }
 
@@ -305,47 +322,34 @@ fn hunt_named<'a>(given: &ArgMatches<'a>) -> Option<Job<'a>>
     Some(Job::Hunt(hunting(given)?))
 }
 
+/// The job of `history` with these matches.
+fn history_named<'a>(given: &ArgMatches<'a>) -> Option<Job<'a>>
+    ensures { option_map request_of result
+        ≡ option_map history (history_keeping_in (rows_of (found_of given.now))) }
+{
+    Some(Job::History(history_keeping(given)?))
+}
+
 /// The job of the command of this name with these matches.
 fn job_of<'a>(name: &str, given: &ArgMatches<'a>) -> Option<Job<'a>>
     ensures { option_map request_of result ≡ request_in (name.now, rows_of (found_of given.now)) }
 {
-    if name == "format" {
-        return format_named(given);
+    match name {
+        "format" => format_named(given),
+        "run" => run_named(given),
+        "inspect" => inspect_named(given),
+        "drive" => drive_named(given),
+        "core" => core_named(given),
+        "calls" => calls_named(given),
+        "debug" => debug_named(given),
+        "races" => races_named(given),
+        "timeline" => timeline_named(given),
+        "profile" => profile_named(given),
+        "hunt" => hunt_named(given),
+        "check" => check_named(given),
+        "history" => history_named(given),
+        _ => None,
     }
-    if name == "run" {
-        return run_named(given);
-    }
-    if name == "inspect" {
-        return inspect_named(given);
-    }
-    if name == "drive" {
-        return drive_named(given);
-    }
-    if name == "core" {
-        return core_named(given);
-    }
-    if name == "calls" {
-        return calls_named(given);
-    }
-    if name == "debug" {
-        return debug_named(given);
-    }
-    if name == "races" {
-        return races_named(given);
-    }
-    if name == "timeline" {
-        return timeline_named(given);
-    }
-    if name == "profile" {
-        return profile_named(given);
-    }
-    if name == "hunt" {
-        return hunt_named(given);
-    }
-    if name == "check" {
-        return check_named(given);
-    }
-    None
 }
 
 /// The job that the matches name.

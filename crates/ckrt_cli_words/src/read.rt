@@ -31,33 +31,33 @@ const FORMAT_USAGE: &str =
 
 /// What follows a number of `inspect` that isn't one.
 const INSPECT_USAGE: &str =
-    "Usage: ckrt inspect <DISK> [--at NUMBER OF EVENTS] [--code] [--names <FILE>]";
+    "Usage: ckrt inspect <DISK> [--history] [--at NUMBER OF EVENTS] [--code] [--names <FILE>]";
 
 /// What follows a number of `core` that isn't one.
 const CORE_USAGE: &str = "Usage: ckrt core <DISK> <FILE> [--at NUMBER OF EVENTS]";
 
 /// What follows a number of `calls` that isn't one.
 const CALLS_USAGE: &str =
-    "Usage: ckrt calls <DISK> [--from NUMBER OF EVENTS] [--to NUMBER OF EVENTS] [--last NUMBER OF EVENTS] [--names <FILE>]";
+    "Usage: ckrt calls <DISK> [--history] [--from NUMBER OF EVENTS] [--to NUMBER OF EVENTS] [--last NUMBER OF EVENTS] [--names <FILE>]";
 
 /// What follows a number of `debug` that isn't one.
-const DEBUG_USAGE: &str = "Usage: ckrt debug <DISK> [--at NUMBER OF EVENTS]";
+const DEBUG_USAGE: &str = "Usage: ckrt debug <DISK> [--history] [--at NUMBER OF EVENTS]";
 
 /// What follows a number of `races` that isn't one.
 const RACES_USAGE: &str =
-    "Usage: ckrt races <DISK> [--from NUMBER OF EVENTS] [--to NUMBER OF EVENTS] [--last NUMBER OF EVENTS] [--names <FILE>] [--memory BYTES]";
+    "Usage: ckrt races <DISK> [--history] [--from NUMBER OF EVENTS] [--to NUMBER OF EVENTS] [--last NUMBER OF EVENTS] [--names <FILE>] [--memory BYTES]";
 
 /// What follows a number of `check` that isn't one.
 const CHECK_USAGE: &str =
-    "Usage: ckrt check <DISK> [--from NUMBER OF EVENTS] [--to NUMBER OF EVENTS] [--last NUMBER OF EVENTS] [--names <FILE>] [--memory BYTES]";
+    "Usage: ckrt check <DISK> [--history] [--from NUMBER OF EVENTS] [--to NUMBER OF EVENTS] [--last NUMBER OF EVENTS] [--names <FILE>] [--memory BYTES]";
 
 /// What follows a number of `timeline` that isn't one.
 const TIMELINE_USAGE: &str =
-    "Usage: ckrt timeline <DISK> [--from NUMBER OF EVENTS] [--to NUMBER OF EVENTS] [--last NUMBER OF EVENTS] [--names <FILE>] [--width 400 to 4000] [--json]";
+    "Usage: ckrt timeline <DISK> [--history] [--from NUMBER OF EVENTS] [--to NUMBER OF EVENTS] [--last NUMBER OF EVENTS] [--names <FILE>] [--width 400 to 4000] [--json]";
 
 /// What follows a number of `profile` that isn't one.
 const PROFILE_USAGE: &str =
-    "Usage: ckrt profile <DISK> [--from NUMBER OF EVENTS] [--to NUMBER OF EVENTS] [--last NUMBER OF EVENTS] [--names <FILE>] [--folded | --callgrind]";
+    "Usage: ckrt profile <DISK> [--history] [--from NUMBER OF EVENTS] [--to NUMBER OF EVENTS] [--last NUMBER OF EVENTS] [--names <FILE>] [--folded | --callgrind]";
 
 /// What is wrong with `profile` with both of its forms.
 const BOTH_FORMS: &str = "error: the argument '--folded' cannot be used with '--callgrind'";
@@ -150,8 +150,12 @@ fn is_version(words: &[&str]) -> bool
 /// `hunt` has no seeds, no seconds, 64 pages, 1 hart, no file of its input, runs of at most 10,000,000 steps, no look at races or errors of memory and no bytes of its shadow, outcomes that outputs tell apart, of many outputs the commonest alone, no disk, no file of its table and no line of progress where these aren't given;
 /// the numbers that are have to be below 2^32 and, of seconds and bytes, 2^64. The text of the seeds is handed on as it is.
 ///
+/// DISK of `calls`, `races`, `check`, `timeline`, `profile` and `debug` is a history where
+/// `--history` is given. It is a disk where that isn't. `history` brings FILE up to a disk where
+/// `--disk` is given. It only looks at FILE where that isn't.
+///
 /// `races`, `check`, `timeline` and `profile` take a stretch as `calls` does, and `races` and `check` a number of bytes below 2^64. A picture is 1,200 pixels wide where `--width` isn't given, which has
-/// to be below 2^32. `profile` has no ELF file and a table where these aren't given; with both of its forms it names no job.
+/// to be below 2^32. `profile` is a table where no form is given; with both of its forms it names no job.
 ///
 /// `drive` has turns of 1,000,000 steps, 16 rounds between two commits, no image, no sizes, no files of its input and its output, no limit of
 /// events, no seed, no line of progress, no file that tells how far it is, and no offsets where these aren't given; the numbers that are have to be

@@ -41,6 +41,7 @@ mod walk;
 mod word;
 
 pub use accesses::{byte_count, fetched, may_access};
+pub use area::read_events;
 pub use callers::caller_of;
 pub use frame::Frame;
 pub use laws::{recordings_are_one, recordings_lead_on};

@@ -10,7 +10,9 @@ use std::io::{Result, Write};
 /// Who did something, and where: a thread that is about to make a step.
 #[derive(Clone, Copy, Debug, Drop)]
 pub struct Moment {
+    /// So many events are done, and so many steps of the next one.
     pub place: Place,
+    /// The thread's number.
     pub thread: u8,
 }
 

@@ -15,16 +15,22 @@ use std::alloc::{AllocError, Global};
 /// What is looked at again: events behind the first so many, from a machine's state on, and the rules by which callers are found.
 #[derive(Clone, Copy)]
 pub struct Source<'a> {
+    /// By which callers are found.
     pub rules: &'a [Rule],
+    /// How many events came before the state.
     pub count: u64,
+    /// The events from the state on, in order.
     pub events: &'a [Event],
+    /// The state.
     pub start: &'a Machine,
 }
 
 /// A machine that has made the first events of a recording.
 #[derive(Drop)]
 pub struct Cursor {
+    /// As those events have left it.
     pub machine: Machine,
+    /// How many events of the recording it has made.
     pub made: usize,
 }
 

@@ -6,6 +6,7 @@ use ckrt_cli_files::{FileFault, JobFile, OutputReason, ToldWriter};
 use ckrt_cli_reports::{JobFault, WrittenReport, report};
 use ckrt_cli_words::read_words;
 use ckrt_drive::DriveFault;
+use ckrt_history::HistoryFault;
 use ckrt_inspect::InspectFault;
 use ckrt_main::ServeFault;
 use ckrt_recovery::{FormatFault, RecoverFault, SubmitFault};
@@ -51,6 +52,21 @@ type Absent = (&'static str, JobFile, &'static str);
 
 /// The files of each job, by their paths.
 const FILES: &[Absent] = &[
+    (
+        "history h",
+        JobFile::History,
+        "the history h: there is no such file\nckrt: File\n",
+    ),
+    (
+        "history h --disk d",
+        JobFile::Disk,
+        "the disk d: there is no such file\nckrt: File\n",
+    ),
+    (
+        "races --history h",
+        JobFile::Disk,
+        "the history h: there is no such file\nckrt: File\n",
+    ),
     (
         "format d i",
         JobFile::Image,
@@ -497,7 +513,7 @@ const JOBS: &[Told] = &[
     (
         "calls d",
         JobFault::Unrecorded,
-        "the disk d: it hasn't recorded all events of --from and --to, no longer or not yet; without these it tells all that it has\nckrt: Range\n",
+        "the disk d: it hasn't recorded all of these events, no longer or not yet; without --from, --to and --at it tells what it has\nckrt: Range\n",
     ),
     (
         "debug d",
@@ -516,12 +532,72 @@ const JOBS: &[Told] = &[
     ),
 ];
 
+/// Faults of histories: of the job that keeps one, and of those that look at one.
+const HISTORIES: &[Told] = &[
+    (
+        "history h --disk d",
+        JobFault::History(HistoryFault::NotAHistory),
+        "the history h: it is no history of ckrt, and is unchanged; look at its path, or give another\nckrt: NotAHistory\n",
+    ),
+    (
+        "history h --disk d",
+        JobFault::File(JobFile::History, FileFault::NotAHistory),
+        "the history h: it is no history of ckrt, and is unchanged; look at its path, or give another\nckrt: NotAHistory\n",
+    ),
+    (
+        "history h",
+        JobFault::History(HistoryFault::Version),
+        "the history h: another version of ckrt made it (docs/HISTORIES.md)\nckrt: Version\n",
+    ),
+    (
+        "calls --history h",
+        JobFault::History(HistoryFault::Damaged),
+        "the history h: it has bytes that ckrt doesn't leave; keep it, and begin another in a new file (docs/HISTORIES.md)\nckrt: Damaged\n",
+    ),
+    (
+        "history h --disk d",
+        JobFault::History(HistoryFault::Device),
+        "the history h: a read, write or sync failed, or its file was cut short; look after its device and the room there and give the same command again, or begin another in a new file\nckrt: Device\n",
+    ),
+    (
+        "debug --history h",
+        JobFault::History(HistoryFault::OutOfMemory),
+        "the system refused memory\nckrt: OutOfMemory\n",
+    ),
+    (
+        "history h --disk d",
+        JobFault::Recover(RecoverFault::NotFormatted),
+        "the disk d: it is no disk of ckrt, or its making was stopped: look at its path (docs/OPERATING.md)\nckrt: NotFormatted\n",
+    ),
+    (
+        "history h --disk d",
+        JobFault::HistoryFull,
+        "the history h: it can't have so many bytes\nckrt: TooSmall\n",
+    ),
+    (
+        "history h --disk d",
+        JobFault::HistoryBehind,
+        "the history h: the disk no longer has the events after its last one; keep it, and begin another in a new file\nckrt: HistoryBehind\n",
+    ),
+    (
+        "history h --disk d",
+        JobFault::HistoryDiffers,
+        "the history h: it is of another program, or of another run of it, or the disk is an older copy; give the disk's own, or a new file\nckrt: HistoryDiffers\n",
+    ),
+    (
+        "inspect --history h --at 9",
+        JobFault::Unrecorded,
+        "the history h: it hasn't recorded all of these events, no longer or not yet; without --from, --to and --at it tells what it has\nckrt: Range\n",
+    ),
+];
+
 #[test]
 fn faults_of_all_layers_are_told(rt: HostRuntime) {
     expect_told(&rt, DISKS);
     expect_told(&rt, SHOWN);
     expect_told(&rt, DRIVES);
     expect_told(&rt, JOBS);
+    expect_told(&rt, HISTORIES);
 }
 
 /// An error of the system, the reason that it is, and all that is said of an output that failed for it.

@@ -1,4 +1,4 @@
-//! Tests of what looks at a guest, and of what hunts: cores, gdb's packets, what a disk has recorded, its calls, histories, and
+//! Tests of what looks at a guest, and of what hunts: cores, gdb's packets, what a disk has recorded, files that keep that, calls, histories, and
 //! what schedules come to. Nothing else stands here.
 #![tactic(auto)]
 
@@ -10,6 +10,8 @@ mod cores;
 mod expect;
 #[cfg(test)]
 mod frames;
+#[cfg(test)]
+mod histories;
 #[cfg(test)]
 mod hunts;
 #[cfg(test)]

@@ -118,7 +118,12 @@ fn machine_behind<R: Abort + AllocGlobal>(rt: &R, runs: &[u16], count: usize) ->
 }
 
 /// The events of a row behind its first so many are recorded, and the machine behind those.
-fn expect_recorded<R: Abort + AllocGlobal>(rt: &R, row: &Row, first: usize, recording: &Recording) {
+pub fn expect_recorded<R: Abort + AllocGlobal>(
+    rt: &R,
+    row: &Row,
+    first: usize,
+    recording: &Recording,
+) {
     expect_eq(rt, recording.first, first as u64);
     expect_same(rt, &recording.machine, &machine_behind(rt, row.1, first));
     expect_eq(

@@ -238,6 +238,11 @@ impl<'a> Sources<'a, &'a [u8], StoppingDisk> for Shelf<'a> {
         }
     }
 
+    fn open_history(&mut self, path: &'a str) -> Result<OpenedOutput<StoppingDisk>, FileFault> {
+        self.outputs = self.outputs.with(&Noted::Refused(path, FileFault::InUse));
+        Err(FileFault::InUse)
+    }
+
     fn open_input(&mut self, path: &'a str) -> Result<StoppingDisk, FileFault> {
         match self.input.take() {
             Some(input) => {

@@ -2,6 +2,7 @@
 from dataclasses import dataclass
 from random import Random
 
+from cases.beside import beside_case
 from cases.call_by_call import Script, flavour_of
 from cases.callers import Caller, Digger
 from cases.checked import checked_case
@@ -265,6 +266,7 @@ KINDS = {
     "lived": of_guests(Living, lived_case, 1), "timed": timed_case, "raced": raced_case, "checked": checked_case, "many": many_case,
     "words": words_case, "drives": of_guest(drives_case), "halts": of_guest(halts_case),
     "inputs": of_guest(inputs_case), "images": of_guest(images_case), "schedules": of_guest(schedules_case), "mixed": of_guest(mixed_case), "rounds": rounds_case,
+    "beside": of_guest(beside_case),
 }
 
 

@@ -1,7 +1,7 @@
 """A `ckrt` made of the model over a file, to try the driver with; and wrong ones, which the driver has to find.
 
-Words: a name in WRONG, WRONG_DRIVES or WRONG_CALLS, or `right`, then those of `ckrt run`, `ckrt inspect`, `ckrt calls`, `ckrt drive`, or
-`ckrt format` on a file of the disk's size.
+Words: a name in WRONG, WRONG_DRIVES, WRONG_CALLS or WRONG_HISTORIES, or `right`, then those of `ckrt run`, `ckrt inspect`, `ckrt calls`,
+`ckrt calls --history`, `ckrt history`, `ckrt drive`, or `ckrt format` on a file of the disk's size.
 """
 import os
 import sys
@@ -10,6 +10,7 @@ from itertools import groupby
 
 from cases.formats import MAKING, NAME
 from cases.histories import is_turned
+from model.beside import Unkept
 from model.call_lines import History
 from model.devices import DeviceFault, MemoryDisk
 from model.feeding import Undriven
@@ -20,6 +21,7 @@ from model.recovery import Unrecovered, pick_area, read_superblock
 from model.session import Session
 from model.switches import SWITCHES
 from unit.stand_in_drives import WRONG_DRIVES, drive
+from unit.stand_in_histories import WRONG_CALLS_OF_HISTORIES, WRONG_HISTORIES, calls_of_history, history
 
 
 class FileDisk:
@@ -206,13 +208,17 @@ def main(**switches):
             run(path, **wrong)
         elif word == "drive":
             sys.exit(drive(path, *options, **WRONG_DRIVES.get(which, {})))
+        elif word == "history":
+            Printer().show(history(path, *options, **WRONG_HISTORIES.get(which, {})))
+        elif (word, path) == ("calls", "--history"):
+            Printer().show(calls_of_history(*options, **WRONG_CALLS_OF_HISTORIES.get(which, {})))
         elif word == "calls":
             calls(path, *options, **WRONG_CALLS.get(which, {}))
         elif word == "format":
             make(path, *options, **{name: part for name, part in wrong.items() if name == "disk"})
         else:
             inspect(path, *options)
-    except (Unrecovered, OutOfRange, DeviceFault, Undriven) as fault:
+    except (Unrecovered, OutOfRange, DeviceFault, Undriven, Unkept) as fault:
         with suppress(OSError):
             os.write(2, " ".join(getattr(fault, "told", [])).encode() + b"\n" * isinstance(fault, Undriven))
             os.write(2, f"ckrt: {'Device' if isinstance(fault, DeviceFault) else fault}\n".encode())

@@ -29,6 +29,9 @@ DRIVES_FOUND_BY = [("reads anything", "inputs", 2), ("padding", "inputs", 2), ("
                                                          "without owners", "unfolded", "undrawn", "drawn of 63")]]
 
 
+SHORT_KEPT = [11, 26]
+KEPT_FOUND_BY = [("without the last", 38), ("the last again", 38), ("uncompared", 26), ("with a gap", 6), ("anywhere", 16), ("in zeros alone", 11),
+                 ("from 0 on", 26), ("begun anew", 38), ("short", 11)]
 SCHEDULES_FOUND_BY = [("obliging", "schedules", 1), ("unnoted", "schedules", 1), ("before input", "inputs", 2), ("over the old", "schedules", 1),
                       ("first alone", "schedules", 1), ("silent", "schedules", 1)]
 
@@ -105,6 +108,14 @@ class Driver(unittest.TestCase):
             for which, first in CALLS_FOUND_BY:
                 with self.subTest(which=which):
                     self.assertIsNotNone(self.difference(which, "histories", first))
+
+    def test_histories_beside(self):
+        with switched(keys=True, long_runs=True, programs=True, schedules=True):
+            for seed in SHORT_KEPT:
+                self.assertIsNone(self.difference("right", "beside", seed))
+            for which, first in KEPT_FOUND_BY:
+                with self.subTest(which=which):
+                    self.assertTrue(any(self.difference(which, "beside", seed) for seed in (first, *range(1, 41))))
 
     def test_keys_of_one_side(self):
         """The program has keys and the model none, or the other way round."""

@@ -2,9 +2,9 @@
 
 A subject's `WRONG` has for each file the texts that are changed there, and what each is changed to.
 """
-from wrong import answers, calls, checks, cycles, disks, drives, histories, hunts, motions, profiles, races, tables, timelines, values, words
+from wrong import answers, beside, calls, checks, cycles, disks, drives, histories, hunts, motions, profiles, races, tables, timelines, values, words
 
-SUBJECTS = {"drives": drives, "tables": tables, "disks": disks, "calls": calls, "histories": histories, "races": races, "cycles": cycles, "checks": checks, "values": values, "timelines": timelines,
+SUBJECTS = {"drives": drives, "tables": tables, "disks": disks, "calls": calls, "histories": histories, "beside": beside, "races": races, "cycles": cycles, "checks": checks, "values": values, "timelines": timelines,
             "profiles": profiles, "hunts": hunts, "answers": answers, "motions": motions, "words": words}
 
 

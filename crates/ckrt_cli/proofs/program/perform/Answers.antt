@@ -9,7 +9,7 @@ returns-in-Format g c =
 pub returns-in-Inspect : goal.returns-in-Inspect
 returns-in-Inspect g c =
     let unread = g.R.Read.remaining c.args.reader.now in
-    record { performs = rw c.in-Inspect.is (c.inspect_path.result, c.without_end-in-Inspect.ensures, c.inspect_path.ensures.shows unread) }
+    record { performs = rw c.in-Inspect.is (c.show.result, c.without_end-in-Inspect.ensures, c.show.ensures.shows unread) }
 
 pub returns-in-Calls : goal.returns-in-Calls
 returns-in-Calls g c =
@@ -40,3 +40,8 @@ pub returns-in-Profile : goal.returns-in-Profile
 returns-in-Profile g c =
     let unread = g.R.Read.remaining c.args.reader.now in
     record { performs = rw c.in-Profile.is (c.profile_path.result, c.without_end-in-Profile.ensures, c.profile_path.ensures.profiles unread) }
+
+pub returns-in-History : goal.returns-in-History
+returns-in-History g c =
+    let unread = g.R.Read.remaining c.args.reader.now in
+    record { performs = rw c.in-History.is (c.history_path.result, c.without_end-in-History.ensures, c.history_path.ensures.tells unread) }

@@ -1,0 +1,16 @@
+pub mod FrontLemmas
+pub mod SameLemmas
+pub mod HistoryLemmas
+pub mod GrowingLemmas
+pub mod ChainLemmas
+pub mod ReadingLemmas
+pub mod CopyLemmas
+pub mod FieldLemmas
+pub mod BegunLemmas
+pub mod LayLemmas
+pub mod RefusalLemmas
+pub mod BatchLemmas
+pub mod CompareLemmas
+pub mod RoomLemmas
+pub mod BringLemmas
+pub mod EitherLemmas

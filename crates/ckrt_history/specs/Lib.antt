@@ -1,0 +1,12 @@
+pub mod Front
+pub mod Reads
+pub mod History
+pub mod Begun
+pub mod Appending
+pub mod Span
+pub mod Copying
+pub mod Joining
+pub mod Beginning
+pub mod Batches
+pub mod Completing
+pub mod Either
