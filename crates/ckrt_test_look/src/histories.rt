@@ -103,7 +103,7 @@ fn expect_span<R: Abort + AllocGlobal>(
 /// A line of stages over one file. The answer of each stage, and what the file has then: the disk's events, or those that it had.
 fn play_line<R: Abort + AllocGlobal>(rt: &R, line: &[Stage]) {
     let mut history = file(rt);
-    let mut last = line[0].0;
+    let mut last: Row = (&[], &[]);
     for (row, answer, first, used) in line {
         let found = joined(rt, &mut played(rt, row), &mut history, 0);
         expect_eq(rt, found, *answer);
