@@ -1,6 +1,5 @@
 -- What was opened for a look is what the path stands for.
 use Rattle.std.proofs.Common.{◌≡◌, ℕ, List, Bool, true, false, Option, Result, sym, subst, inl, inr}
-use Rattle.std.specs.Prelude.{◌⊎◌}
 use Rattle.ckrt_disk.specs.declared.disk.Disk.{Ghosts}
 use Rattle.ckrt_look_calls.specs.Stretches.{Account}
 use Rattle.ckrt_look_recording.specs.declared.parts.Parts.{Parts}
@@ -9,7 +8,7 @@ use Rattle.ckrt_cli_files.specs.Openings.{Openings}
 use Rattle.ckrt_cli_reports.specs.Outside.{Outside}
 use Rattle.ckrt_cli_reports.specs.declared.fault.JobFault.{JobFault}
 use Rattle.ckrt_cli.specs.Debugging.{ReadsAt}
-use Rattle.ckrt_cli.specs.Histories.{JoinsOpened, JoinsWith, LacksHistory, MeasuresOpened, Place}
+use Rattle.ckrt_cli.specs.Histories.{JoinsOpened, JoinsWith, LacksHistory, MeasuresOpened}
 use Rattle.ckrt_cli.specs.Looking.{LooksAt, sight}
 use Rattle.ckrt_cli_files.specs.Openings.{opened, with_output}
 use Rattle.ckrt_cli_files.specs.declared.output.OpenedOutput.{OpenedOutput}

@@ -1,4 +1,4 @@
-use Rattle.std.proofs.Common.{◌≡◌, ap, inr}
+use Rattle.std.proofs.Common.{ap, inr}
 use Rattle.ckrt_cli_words.specs.Jobs.{disk_stretch_of}
 use Rattle.ckrt_cli_reports.specs.Outside.{outside}
 use Rattle.ckrt_cli.proofs.OpenedLemmas.{looked_there}
