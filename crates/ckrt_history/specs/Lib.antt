@@ -10,3 +10,6 @@ pub mod Beginning
 pub mod Batches
 pub mod Completing
 pub mod Either
+pub mod Keeping
+pub mod Kept
+pub mod Opening

@@ -2,6 +2,9 @@
 ghost use Rattle.ckrt_history.specs.Appending.{AppendedHasMore};
 ghost use Rattle.ckrt_history.specs.Either.{IsHistoryByFront};
 ghost use Rattle.ckrt_history.specs.History.{HasNoFault, IsRecordedOnce};
+ghost use Rattle.ckrt_history.specs.Kept.{BeginsAtEnd, GoesOnTogether, KeepsOn};
+
+use ckrt_disk::Disk;
 
 /// A history has one thing recorded only, and bytes that have something recorded have no fault.
 pub fn histories_are_one()
@@ -17,4 +20,16 @@ pub fn appended_histories_have_more()
 /// A file is a history by its first gate and its name exactly where its front isn't refused as `NotAHistory`.
 pub fn histories_are_named()
     ensures { IsHistoryByFront }
+{}
+
+/// A history that was begun from a disk, or brought up to it, goes just as far as what the disk has recorded.
+pub fn joined_histories_go_as_far()
+    ensures { BeginsAtEnd }
+{}
+
+/// A drive that keeps a history: after each step that has all events that are acknowledged, durably, behind those that it began with. And whatever a
+/// stop leaves at any moment of the disk recovers to a list of events of which whatever it leaves of the history has a beginning.
+pub fn drives_keep_histories<D: Disk, O: Disk, K: Disk>()
+    ensures keep { KeepsOn D.Disk O.Disk K.Disk }
+    ensures together { GoesOnTogether D.Disk O.Disk K.Disk }
 {}
