@@ -11,12 +11,14 @@ openings_of s = record {
   disk = map kept_opening s.disk.states;
   output = map kept_opening s.output.states;
   input = map kept_opening s.input.states;
+  history = map kept_opening s.history.states;
   making = map kept_opening s.making.states;
   naming = map kept_opening s.naming.states;
   named = s.named.states;
   closed = s.closed.states;
   closed_output = s.closed_output.states;
   closed_input = s.closed_input.states;
+  closed_history = s.closed_history.states;
   lengthened = s.lengthened.states;
   abandoned = s.abandoned.states;
 }

@@ -50,6 +50,8 @@ pub enum FileFault {
     IsInput,
     /// The path of a status is the output's too.
     IsOutput,
+    /// The path of an output or a status is the history's too.
+    IsHistory,
     /// A directory has this path.
     IsADirectory,
     /// What has this path is no plain file: a terminal, say, or a pipe.
@@ -176,6 +178,7 @@ impl FileFault {
             FileFault::IsDisk => "the disk has this path too; give another",
             FileFault::IsInput => "the input has this path too; give another",
             FileFault::IsOutput => "the output has this path too; give another",
+            FileFault::IsHistory => "the history has this path too; give another",
             FileFault::IsADirectory => "it is a directory",
             FileFault::NotAFile =>
                 "it isn't a plain file, and can't be written by offset; without --output the bytes are printed",

@@ -1,6 +1,6 @@
 //! Where jobs get their images, disks, inputs and outputs from.
 ghost use Rattle.std.specs.Prelude.{◌≡◌, ◌≤◌, ℕ, List, Option, Some, IfOk, IfErr};
-ghost use Rattle.ckrt_cli_files.specs.Openings.{Openings, opening_of, with_abandoned, with_closed, with_closed_input, with_closed_output, with_disk, with_image, with_input, with_lengthened, with_making, with_named, with_output};
+ghost use Rattle.ckrt_cli_files.specs.Openings.{Openings, opening_of, with_abandoned, with_closed, with_closed_history, with_closed_input, with_closed_output, with_disk, with_history, with_image, with_input, with_lengthened, with_making, with_named, with_output};
 ghost use Rattle.ckrt_cli_files.specs.Sources.{Gives, GivesNoMore, GivesSame};
 
 use crate::file::FileFault;
@@ -17,11 +17,11 @@ pub struct Unlengthened<D> {
     pub fault: FileFault,
 }
 
-/// Where the jobs give disks, inputs and outputs back. Nothing is known of these but that they may be let go: so whoever takes them
+/// Where the jobs give disks, inputs, outputs and histories back. Nothing is known of these but that they may be let go: so whoever takes them
 /// back can't write to them.
 pub trait Closes<D> {
-    /// How all images, disks, inputs and outputs were opened, which disks were given a name or made longer, and which disks,
-    /// inputs and outputs were given back.
+    /// How all images, disks, inputs, outputs and histories were opened, which disks were given a name or made longer, and which
+    /// disks, inputs, outputs and histories were given back.
     ghost openings: { Self → Openings D };
 
     /// Takes a disk back.
@@ -39,6 +39,11 @@ pub trait Closes<D> {
     /// Takes an input back.
     fn close_input(&mut self, input: D)
         ensures closed { openings self.new ≡ with_closed_input (openings self.old) (Some input) };
+
+    /// Takes a history back.
+    fn close_history(&mut self, history: D)
+        ensures closed { openings self.new
+            ≡ with_closed_history (openings self.old) (Some history) };
 }
 
 /// Where the jobs get their images and their disks from, by path.
@@ -127,7 +132,8 @@ pub trait Sources<'a, I: Read, D: Disk>: Closes<D> {
     fn open_history(&mut self, path: &'a str) -> Result<OpenedOutput<D>, FileFault>
         ensures output { IfOk result ((gives self.old).Outputs path.now) }
         ensures asked { Self.openings self.new
-            ≡ with_output (Self.openings self.old) (opening_of path.now result) };
+            ≡ with_history (Self.openings self.old) (opening_of path.now result) }
+        ensures same { GivesNoMore (gives self.old) (gives self.new) };
 
     /// The input of a path, which is only read. What can't be read by offset, as a pipe, is refused.
     fn open_input(&mut self, path: &'a str) -> Result<D, FileFault>

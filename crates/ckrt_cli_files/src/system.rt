@@ -57,22 +57,26 @@ pub struct SystemSources<'a, R, D> {
     disk: History<FileOpening<'a>>,
     output: History<FileOpening<'a>>,
     input: History<FileOpening<'a>>,
+    history: History<FileOpening<'a>>,
     making: History<FileOpening<'a>>,
     naming: History<FileOpening<'a>>,
     named: History<D>,
     closed: History<D>,
     closed_output: History<D>,
     closed_input: History<D>,
+    closed_history: History<D>,
     lengthened: History<D>,
     abandoned: History<D>,
     /// Which file the image is, where one was opened.
     image_id: Option<FileId>,
     /// Which one the disk is.
     disk_id: Option<FileId>,
-    /// And which one the input is.
-    input_id: Option<FileId>,
-    /// And that file once more, by which it can be made longer.
+    /// The file of the disk once more, by which it can be made longer.
     disk_file: Option<File>,
+    /// Which file the input is.
+    input_id: Option<FileId>,
+    /// And which one the history is.
+    history_id: Option<FileId>,
     /// The file that was made for a disk that isn't formatted yet, or for a core that isn't written.
     made: Option<MadeFile<'a>>,
 }
@@ -97,18 +101,21 @@ impl<'a, R, D> SystemSources<'a, R, D> {
             disk: History::new(),
             output: History::new(),
             input: History::new(),
+            history: History::new(),
             making: History::new(),
             naming: History::new(),
             named: History::new(),
             closed: History::new(),
             closed_output: History::new(),
             closed_input: History::new(),
+            closed_history: History::new(),
             lengthened: History::new(),
             abandoned: History::new(),
             image_id: None,
             disk_id: None,
-            input_id: None,
             disk_file: None,
+            input_id: None,
+            history_id: None,
             made: None,
         }
     }
@@ -161,7 +168,7 @@ impl<'a, R: Files<File = File>, D> SystemSources<'a, R, D> {
         leads_to(self.rt, path, self.disk_id)
     }
 
-    /// Why a path can't be an output: it leads to the image, the disk or the input.
+    /// Why a path can't be an output or a history: it leads to the image, the disk, the input or the history that is open.
     fn taken_for(&self, path: &str) -> Result<(), FileFault> {
         if leads_to(self.rt, path, self.disk_id) {
             return Err(FileFault::IsDisk);
@@ -171,6 +178,9 @@ impl<'a, R: Files<File = File>, D> SystemSources<'a, R, D> {
         }
         if leads_to(self.rt, path, self.image_id) {
             return Err(FileFault::IsImage);
+        }
+        if leads_to(self.rt, path, self.history_id) {
+            return Err(FileFault::IsHistory);
         }
         Ok(())
     }
@@ -335,7 +345,7 @@ impl<'a, R: Files<File = File>, H: Holds> SystemSources<'a, R, RealDisk<'a, H>> 
         Ok(input)
     }
 
-    /// The output of a path. The image, the disk and the input are never taken for it.
+    /// The output of a path. The image, the disk, the input and the history are never taken for it.
     fn open_output_file(&mut self, path: &str) -> Result<OpenedOutput<RealDisk<'a, H>>, FileFault>
         ensures openings { openings_of self.new ≡ openings_of self.old }
         ensures output { IfOk result (IsOutputOf ⟦<RealDisk<'a, H> as Disk>⟧ path.now) }
@@ -345,14 +355,16 @@ impl<'a, R: Files<File = File>, H: Holds> SystemSources<'a, R, RealDisk<'a, H>> 
         open_system_output(self.rt, path, opened, self.why)
     }
 
-    /// The file of the history of a path. The disk is never taken for it.
+    /// The file of the history of a path, which is remembered. The image, the disk and the input are never taken for it.
     fn open_history_file(&mut self, path: &str) -> Result<OpenedOutput<RealDisk<'a, H>>, FileFault>
         ensures openings { openings_of self.new ≡ openings_of self.old }
         ensures output { IfOk result (IsOutputOf ⟦<RealDisk<'a, H> as Disk>⟧ path.now) }
     {
         self.taken_for(path)?;
         let opened = self.note(FileUse::Output, path);
-        open_system_history(self.rt, path, opened, self.why)
+        let history = open_system_history(self.rt, path, opened, self.why)?;
+        self.history_id = FileId::at(self.rt, path);
+        Ok(history)
     }
 }
 
@@ -376,6 +388,10 @@ impl<'a, R: Files<File = File>, D: Drop> Closes<D> for SystemSources<'a, R, D> {
 
     fn close_input(&mut self, input: D) {
         self.closed_input = self.closed_input.with(&input);
+    }
+
+    fn close_history(&mut self, history: D) {
+        self.closed_history = self.closed_history.with(&history);
     }
 }
 
@@ -462,7 +478,7 @@ impl<'a, R: Files<File = File>, H: Holds> Sources<'a, ImageReader, RealDisk<'a, 
 
     fn open_history(&mut self, path: &'a str) -> Result<OpenedOutput<RealDisk<'a, H>>, FileFault> {
         let opened = self.open_history_file(path);
-        self.output = self.output.with(&FileOpening::of(path, &opened));
+        self.history = self.history.with(&FileOpening::of(path, &opened));
         opened
     }
 

@@ -302,6 +302,7 @@ fn path<'a>(job: &Job<'a>, file: JobFile) -> &'a str {
         (Job::Drive(job), JobFile::Making) => job.disk,
         (Job::Drive(job), JobFile::Image) => job.image.unwrap_or(""),
         (Job::Drive(job), JobFile::Input) => job.input.unwrap_or(""),
+        (Job::Drive(job), JobFile::History) => job.history.unwrap_or(""),
         (Job::Core(job), JobFile::Disk) => job.disk,
         (Job::Core(job), JobFile::Core) => job.file,
         (Job::History(job), JobFile::History) => job.file,

@@ -19,6 +19,7 @@ fn file_of(alloc: Global, path: &str, paths: &DrivePaths<'_>) -> Option<Replaced
         .beside(alloc, Some(paths.disk), FileFault::IsDisk)?
         .beside(alloc, paths.input, FileFault::IsInput)?
         .beside(alloc, paths.output, FileFault::IsOutput)?
+        .beside(alloc, paths.history, FileFault::IsHistory)?
         .beside(alloc, paths.image, FileFault::IsImage)
 }
 

@@ -13,6 +13,8 @@ pub struct DrivePaths<'a> {
     pub input: Option<&'a str>,
     /// That of the output, if there is one.
     pub output: Option<&'a str>,
+    /// That of the history, if there is one.
+    pub history: Option<&'a str>,
 }
 
 /// What is told of a drive while it runs.

@@ -97,7 +97,7 @@ pub record Hunting : Type 0 where
   pub progress : Option ℕ
 
 -- what `drive` drives: which disk, the image that a missing one is made with, its sizes, the file of its input and where that goes on, the file
--- of its output, steps of a turn, rounds between commits, after how many events it ends, the seed of its lots, whether another schedule than
+-- of its output and that of its history, steps of a turn, rounds between commits, after how many events it ends, the seed of its lots, whether another schedule than
 -- the disk's is taken, at most each how many seconds it tells how far it is, the file that tells it too, and below which offset output is left out
 pub record Driving : Type 0 where
   pub disk : Text
@@ -106,6 +106,7 @@ pub record Driving : Type 0 where
   pub input : Option Text
   pub input_from : Option ℕ
   pub output : Option Text
+  pub history : Option Text
   pub turn : ℕ
   pub rounds : ℕ
   pub events : Option ℕ
@@ -197,6 +198,7 @@ driving_of d = record {
   input = option_map (λ path. path.now) d.input;
   input_from = d.input_from;
   output = option_map (λ path. path.now) d.output;
+  history = option_map (λ path. path.now) d.history;
   turn = d.turn;
   rounds = d.rounds;
   events = d.events;
@@ -362,6 +364,7 @@ driving_in rows = do
     input = first_of (codes "input") rows;
     input_from = place_in (codes "input-from") rows;
     output = first_of (codes "output") rows;
+    history = first_of (codes "history") rows;
     turn = turn;
     rounds = rounds;
     events = place_in (codes "events") rows;

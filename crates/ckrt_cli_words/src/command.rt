@@ -595,7 +595,7 @@ fn history_arguments<'a>(alloc: Global) -> Result<Vec<Arg<'a>>, AllocError>
     Ok(arguments)
 }
 
-/// `drive DISK` with its options: how a missing disk is made, where the input comes from and the output goes, how it goes on, and where names are.
+/// `drive DISK` with its options: how a missing disk is made, where input, output and history are, how it goes on, and where names are.
 fn drive_command<'a>(alloc: Global) -> Result<Command<'a>, AllocError>
     ensures app { IfOk result (λ c. app_of c ≡ drive_app) }
     ensures local { IfOk result (λ c. (out-Command c).has_globals ≡ false) }
@@ -656,6 +656,12 @@ fn drive_arguments<'a>(alloc: Global) -> Result<Vec<Arg<'a>>, AllocError>
             "output",
             "FILE",
             "The file to put the program's output in, each byte at its offset; the standard output without it"
+        ),
+        option(
+            alloc,
+            "history",
+            "FILE",
+            "The file to keep all events of the disk in, batch by batch; it is made where it is missing"
         ),
         number(
             alloc,

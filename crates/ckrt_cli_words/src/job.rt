@@ -212,6 +212,8 @@ pub struct DriveJob<'a> {
     pub input_from: Option<u64>,
     /// The path of the file of its output, which goes to the standard output where this isn't given.
     pub output: Option<&'a str>,
+    /// The path of the history that is kept meanwhile; this isn't given where none is.
+    pub history: Option<&'a str>,
     /// Steps of a turn, at most.
     pub turn: u32,
     /// Rounds between two commits.

@@ -183,6 +183,7 @@ fn driving<'a>(matches: &ArgMatches<'a>) -> Option<DriveJob<'a>>
         input: text(matches, "input"),
         input_from: place(matches, "input-from"),
         output: text(matches, "output"),
+        history: text(matches, "history"),
         turn: number(matches, "turn")?,
         rounds: number(matches, "rounds-per-commit")?,
         events: place(matches, "events"),

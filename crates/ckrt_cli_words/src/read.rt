@@ -68,7 +68,7 @@ const HUNT_USAGE: &str =
 
 /// What follows a number of `drive` that isn't one.
 const DRIVE_USAGE: &str =
-    "Usage: ckrt drive <DISK> [--image <IMAGE>] [--pages 16 to 65536] [--harts 1 to 8] [--journal 4096 to 1048576 by 4096] [--input <FILE>] [--input-from OFFSET] [--output <FILE>] [--turn 1 to 1000000] [--rounds-per-commit NUMBER OF ROUNDS] [--events NUMBER OF EVENTS] [--seed NUMBER] [--other-schedule] [--progress SECONDS] [--status <FILE>] [--from OFFSET] [--names <FILE>] [--env NAME=VALUE] [-- ARGUMENTS]";
+    "Usage: ckrt drive <DISK> [--image <IMAGE>] [--pages 16 to 65536] [--harts 1 to 8] [--journal 4096 to 1048576 by 4096] [--input <FILE>] [--input-from OFFSET] [--output <FILE>] [--history <FILE>] [--turn 1 to 1000000] [--rounds-per-commit NUMBER OF ROUNDS] [--events NUMBER OF EVENTS] [--seed NUMBER] [--other-schedule] [--progress SECONDS] [--status <FILE>] [--from OFFSET] [--names <FILE>] [--env NAME=VALUE] [-- ARGUMENTS]";
 
 /// What follows a number that isn't one, by the command.
 fn number_usage(words: &[&str]) -> &'static str {
@@ -157,7 +157,7 @@ fn is_version(words: &[&str]) -> bool
 /// `races`, `check`, `timeline` and `profile` take a stretch as `calls` does, and `races` and `check` a number of bytes below 2^64. A picture is 1,200 pixels wide where `--width` isn't given, which has
 /// to be below 2^32. `profile` is a table where no form is given; with both of its forms it names no job.
 ///
-/// `drive` has turns of 1,000,000 steps, 16 rounds between two commits, no image, no sizes, no files of its input and its output, no limit of
+/// `drive` has turns of 1,000,000 steps, 16 rounds between two commits, no image, no sizes, no files of its input, its output and its history, no limit of
 /// events, no seed, no line of progress, no file that tells how far it is, and no offsets where these aren't given; the numbers that are have to be
 /// below 2^32 and, of events, a seed, seconds and offsets, 2^64.
 ///

@@ -247,6 +247,10 @@ const REASONS_OF_FILES: &[Unusable] = &[
         "the disk d: the output has this path too; give another\nckrt: File\n",
     ),
     (
+        FileFault::IsHistory,
+        "the disk d: the history has this path too; give another\nckrt: File\n",
+    ),
+    (
         FileFault::IsADirectory,
         "the disk d: it is a directory\nckrt: File\n",
     ),
