@@ -118,6 +118,11 @@ const FILES: &[Absent] = &[
         "the output (standard output): there is no such file\nckrt: File\n",
     ),
     (
+        "drive d --output o --history h",
+        JobFile::History,
+        "the history h: there is no such file\nckrt: File\n",
+    ),
+    (
         "core d c",
         JobFile::Disk,
         "the disk d: there is no such file\nckrt: File\n",
