@@ -225,14 +225,14 @@ module _ {D O K : Type 0} {d : Ghosts D} {o : Ghosts O} {k : Ghosts K} (options 
 
 -- STEP AFTER STEP
 
-module _ {D O K : Type 0} {d : Ghosts D} {o : Ghosts O} {k : Ghosts K} (options : Options) where
-  -- an honest file was honest before
-  kept_honest : (place next : OpenHistory) (owed : List ℕ) (old new : K) (kept : Result (Unit {0}) KeepingFault) → Keeps k place owed old new next kept → k.is_honest new → k.is_honest old
-  kept_honest place next [] old new kept keeps honest = subst k.is_honest keeps.0 honest
-  kept_honest place next (byte ∷ more) old new kept keeps honest = keeps.0.same.honest honest
+-- an honest file was honest before
+kept_honest : {K : Type 0} (k : Ghosts K) (place next : OpenHistory) (owed : List ℕ) (old new : K) (kept : Result (Unit {0}) KeepingFault) → Keeps k place owed old new next kept → k.is_honest new → k.is_honest old
+kept_honest k place next [] old new kept keeps honest = subst k.is_honest keeps.0 honest
+kept_honest k place next (byte ∷ more) old new kept keeps honest = keeps.0.same.honest honest
 
-  pub advance_honest : (x y : KeepingStage d o k) (kept : Result (Unit {0}) KeepingFault) → Advances options x y kept → k.is_honest y.file → k.is_honest x.file
-  advance_honest x y kept advances honest = kept_honest x.place y.place (owed_by advances.step.result x.stage.session.pending.items) x.file y.file kept advances.keeps honest
+module _ {D O K : Type 0} {d : Ghosts D} {o : Ghosts O} {k : Ghosts K} (options : Options) where
+  advance_honest : (x y : KeepingStage d o k) (kept : Result (Unit {0}) KeepingFault) → Advances options x y kept → k.is_honest y.file → k.is_honest x.file
+  advance_honest x y kept advances honest = kept_honest k x.place y.place (owed_by advances.step.result x.stage.session.pending.items) x.file y.file kept advances.keeps honest
 
   all_honest : (stages : List (KeepingStage d o k)) (x y : KeepingStage d o k) → GoesKeeping options stages x y → d.is_honest y.stage.session.disk → k.is_honest y.file → d.is_honest x.stage.session.disk × k.is_honest x.file
   all_honest [] x y goes disk file = (subst (λ (q : KeepingStage d o k). d.is_honest q.stage.session.disk) goes disk, subst (λ (q : KeepingStage d o k). k.is_honest q.file) goes file)
