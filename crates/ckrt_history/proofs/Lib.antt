@@ -2,6 +2,7 @@ pub mod FrontLemmas
 pub mod SameLemmas
 pub mod HistoryLemmas
 pub mod GrowingLemmas
+pub mod WalkLemmas
 pub mod ChainLemmas
 pub mod ReadingLemmas
 pub mod CopyLemmas
