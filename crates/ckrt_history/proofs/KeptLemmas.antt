@@ -141,15 +141,15 @@ module _ {D O K : Type 0} {d : Ghosts D} {o : Ghosts O} {k : Ghosts K} (options 
       durable = same.1;
     })
     | inr is ↦ (
-      let steps_so = subst (λ z. Steps o (aim_of options w (view_of x.stage.session)) x.stage.session y.stage.session x.stage.output y.stage.output z) is steps in
-      let all : y.stage.session.acknowledged ≡ length events = commits o options w x.stage.session y.stage.session x.stage.output y.stage.output p events reps steps_so in
-      let after = after_commit x.stage.session.pending.items refl (subst (λ z. Keeps k x.place (owed_by z x.stage.session.pending.items) x.file y.file y.place (Ok tt)) is keeps) honest in
-      subst (λ z. HasAcknowledged r from (events ++ accepted_in z) y) (sym is) (record {
-        begun = omega (arith, has.begun, reps.acknowledged, all);
-        ends = subst (λ (l : List Event). EndsAt y.place (k.content y.file) (grown r from l)) (sym (all_of events y.stage.session all)) after.0;
-        durable = after.1;
-      })
-    )
+        let steps_so = subst (λ z. Steps o (aim_of options w (view_of x.stage.session)) x.stage.session y.stage.session x.stage.output y.stage.output z) is steps in
+        let all : y.stage.session.acknowledged ≡ length events = commits o options w x.stage.session y.stage.session x.stage.output y.stage.output p events reps steps_so in
+        let after = after_commit x.stage.session.pending.items refl (subst (λ z. Keeps k x.place (owed_by z x.stage.session.pending.items) x.file y.file y.place (Ok tt)) is keeps) honest in
+        subst (λ z. HasAcknowledged r from (events ++ accepted_in z) y) (sym is) (record {
+          begun = omega (arith, has.begun, reps.acknowledged, all);
+          ends = subst (λ (l : List Event). EndsAt y.place (k.content y.file) (grown r from l)) (sym (all_of events y.stage.session all)) after.0;
+          durable = after.1;
+        })
+        )
   ]
 
   -- AT EACH MOMENT
@@ -215,9 +215,9 @@ module _ {D O K : Type 0} {d : Ghosts D} {o : Ghosts O} {k : Ghosts K} (options 
       appending result steps keeps image file might left = elim (still o options w x.stage.session y.stage.session x.stage.output y.stage.output result steps) [
         | inl quiet ↦ appending_few result steps image file might (left_still file (none_owed kept (owed_by result x.stage.session.pending.items) quiet.1 keeps).0 left)
         | inr is ↦ ⊎_elim
-        (λ (as_before : _). appending_few result steps image file might as_before)
-        (λ (more : _). appending_all (subst Makes is steps) image file might more)
-        (left_appending kept x.stage.session.pending.items refl (subst (λ z. Keeps k x.place (owed_by z x.stage.session.pending.items) x.file y.file y.place kept) is keeps) file_honest file left)
+            (λ (as_before : _). appending_few result steps image file might as_before)
+            (λ (more : _). appending_all (subst Makes is steps) image file might more)
+            (left_appending kept x.stage.session.pending.items refl (subst (λ z. Keeps k x.place (owed_by z x.stage.session.pending.items) x.file y.file y.place kept) is keeps) file_honest file left)
       ]
 
       pub at_each_moment : (result : Result StepDone DriveFault) → Makes result → Keeps k x.place (owed_by result x.stage.session.pending.items) x.file y.file y.place kept → AtEachMoment p r from x y
