@@ -1,14 +1,23 @@
--- What a disk holds as a core: in a file beside the path that it is for, which gets that path once it is whole and durable. So at every moment
+-- What a disk or a history holds as a core: in a file beside the path that it is for, which gets that path once it is whole and durable. So at every moment
 -- what had the path stands there, or the whole core.
-use Rattle.std.specs.Prelude.{◌≡◌, ◌≢◌, ◌⊎◌, ℕ, List, length, Result, Ok, Err, OnOk, IfErr}
+use Rattle.std.specs.Prelude.{◌≡◌, ◌≢◌, ◌⊎◌, ◌≤◌, ◌<◌, ◌+◌, ℕ, Bool, true, false, List, length, take, Option, Some, None, Result, Ok, Err, OnOk, IfErr}
 use Rattle.ckrt_gdb_forms.specs.Core.{core_of}
 use Rattle.ckrt_disk.specs.Disk.{HasFailed}
 use Rattle.ckrt_disk.specs.Frame.{IsOnlyRead}
 use Rattle.ckrt_disk.specs.declared.disk.Disk.{Ghosts}
+use Rattle.ckrt_events.specs.declared.event.Event.{Event}
+use Rattle.ckrt_machine.specs.Events.{AllAccepted, Machine, fold}
+use Rattle.ckrt_machine.specs.Steps.{State}
+use Rattle.ckrt_history.specs.History.{Tells}
+use Rattle.ckrt_history.specs.Reads as history
+use Rattle.ckrt_history.specs.declared.fault.HistoryFault.{HistoryFault}
+use Rattle.ckrt_look_recording.specs.Recording.{Recorded, recorded_of}
+use Rattle.ckrt_look_recording.specs.declared.recording.Recording.{Recording}
 use Rattle.ckrt_stored.specs.Progress.{recovered_of}
 use Rattle.ckrt_stored.specs.declared.progress.Progress.{Progress}
 use Rattle.ckrt_inspect.specs.Inspect.{AgreesAt, is_device}
 use Rattle.ckrt_inspect.specs.declared.fault.InspectFault.{InspectFault}
+use Rattle.ckrt_inspect.specs.declared.fault.InspectFault.TheVariants as inspect
 use Rattle.ckrt_cli_words.specs.Jobs.{CoreMaking}
 use Rattle.ckrt_cli_files.specs.Openings.{Openings, opened, with_abandoned, with_closed, with_closed_output, with_disk, with_making, with_named}
 use Rattle.ckrt_cli_reports.specs.Outside.{Lacks}
@@ -93,9 +102,77 @@ pub record CoresOpened {D : Type 0} (d : Ghosts D) (Opens : D → Type 0) (Fills
   pub cores : Cores d Fills c start end asked made result
   pub closes : new ≡ with_closed made end
 
--- a core was made of the disk of this path, or that can't be opened
+-- THE HISTORY
+
+-- how many of the recorded events lead to the moment behind that many, or behind the last one; none where it wasn't recorded
+abbrev pub IsMomentIn : (at : Option ℕ) → Recorded → Option ℕ → Type 0
+IsMomentIn None r moment = moment ≡ Some (length r.events)
+IsMomentIn (Some k) r (Some n) = (r.first + n ≡ k) × (n ≤ length r.events)
+IsMomentIn (Some k) r None = (k < r.first) ⊎ (r.first + length r.events < k)
+
+-- each event before that is accepted at its turn, and the machine is in the state that they lead to; or why there is no such state
+abbrev pub IsProgramBehind : List Event → State → Result Machine JobFault → Type 0
+IsProgramBehind es s (Ok m) = AllAccepted es s × (m.state ≡ (fold es s).state)
+IsProgramBehind es s (Err why) =
+    (why ≡ job.Inspect inspect.Damaged) × (AllAccepted es s → ⊥)
+
+abbrev pub IsProgramIn : Recorded → Result Machine JobFault → (moment : Option ℕ) → Type 0
+IsProgramIn r found None = found ≡ Err job.Unrecorded
+IsProgramIn r found (Some n) = IsProgramBehind (take n r.events) r.start found
+
+-- the program at that moment
+pub record IsProgramAt (at : Option ℕ) (r : Recorded) (found : Result Machine JobFault)
+    : Type 0 where
+  pub moment : Option ℕ
+  pub is : IsMomentIn at r moment
+  pub program : IsProgramIn r found moment
+
+-- where there is one its core was made; else no file was asked for
+abbrev pub CoresProgram : {D : Type 0} → Ghosts D → (ℕ → D → Type 0) → (path : List ℕ)
+    → (old new : Openings D) → Result Machine JobFault → Result (Unit {0}) JobFault → Type 0
+CoresProgram d Fills path old new (Ok m) result =
+    MakesCore d Fills (core_of m.state) path old new result
+CoresProgram d Fills path old new (Err why) result = (result ≡ Err why) × (new ≡ old)
+
+abbrev pub CoresRecorded : {D : Type 0} → Ghosts D → (ℕ → D → Type 0) → CoreMaking → Recorded
+    → (old new : Openings D) → Result (Unit {0}) JobFault → Type 0
+CoresRecorded d Fills c r old new result =
+    (found : Result Machine JobFault) × IsProgramAt c.at r found
+    × CoresProgram d Fills c.file old new found result
+
+-- of what was read of it, or nothing was
+abbrev pub CoresRead : {D : Type 0} → Ghosts D → (ℕ → D → Type 0) → CoreMaking
+    → (old new : Openings D) → Result Recording HistoryFault → Result (Unit {0}) JobFault → Type 0
+CoresRead d Fills c old new (Ok r) result = CoresRecorded d Fills c (recorded_of r) old new result
+CoresRead d Fills c old new (Err why) result = (result ≡ Err (job.History why)) × (new ≡ old)
+
+-- A core was made of a history that was opened, that was only read, and closed as it was then. What was read is what it has recorded, if it was
+-- honest to that end.
+pub record CoresHistory {D : Type 0} (d : Ghosts D) (Opens : D → Type 0) (Fills : ℕ → D → Type 0)
+    (c : CoreMaking) (asked new : Openings D) (result : Result (Unit {0}) JobFault)
+    : Type 0 where
+  pub start : D
+  pub is_opened : Opens start
+  pub end : D
+  pub answer : Result Recording HistoryFault
+  pub read : IsOnlyRead d start end (history.is_device answer)
+  pub records : history.IsReadAs d start end recorded_of answer Tells
+  pub made : Openings D
+  pub cores : CoresRead d Fills c asked made answer result
+  pub closes : new ≡ with_closed made end
+
+-- EITHER
+
+-- what was opened is a history, where the words say so, and else a disk
+abbrev pub CoresAt : (is_history : Bool) → {D : Type 0} → Ghosts D → (D → Type 0)
+    → (ℕ → D → Type 0) → CoreMaking → (asked new : Openings D) → Result (Unit {0}) JobFault
+    → Type 0
+CoresAt true d Opens Fills c asked new result = CoresHistory d Opens Fills c asked new result
+CoresAt false d Opens Fills c asked new result = CoresOpened d Opens Fills c asked new result
+
+-- a core was made of the disk or the history of this path, or that can't be opened
 abbrev pub CoresPath : {D : Type 0} → Ghosts D → (D → Type 0) → (ℕ → D → Type 0) → CoreMaking
     → (old new : Openings D) → Result (Unit {0}) JobFault → Type 0
 CoresPath d Opens Fills c old new result =
     Lacks file.Disk c.disk (with_disk old) new result
-    ⊎ CoresOpened d Opens Fills c (with_disk old (opened c.disk)) new result
+    ⊎ CoresAt c.history d Opens Fills c (with_disk old (opened c.disk)) new result

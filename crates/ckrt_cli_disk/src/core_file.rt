@@ -1,15 +1,18 @@
-//! Writing what a disk holds as a core.
-ghost use Rattle.std.specs.Prelude.{◌≡◌, Ok, IfOk, IfErr};
+//! Writing what a disk or a history holds as a core.
+ghost use Rattle.std.specs.Prelude.{◌≡◌, ◌≤◌, Ok, IfOk, IfErr, IfSome, length};
 ghost use Rattle.ckrt_gdb_forms.specs.Core.{core_of};
 ghost use Rattle.ckrt_cli_words.specs.Jobs.{core_making_of};
-ghost use Rattle.ckrt_cli_disk.specs.CoreFiles.{Cores, CoresOpened, CoresPath, EndsCore, MakesCore, WritesCore, WritesInto};
+ghost use Rattle.ckrt_look_recording.specs.Recording.{recorded_of};
+ghost use Rattle.ckrt_cli_disk.specs.CoreFiles.{Cores, CoresAt, CoresHistory, CoresOpened, CoresPath, CoresRecorded, EndsCore, IsMomentIn, IsProgramAt, MakesCore, WritesCore, WritesInto};
 
 use ckrt_cli_files::{FileFault, JobFile, Sources};
 use ckrt_cli_reports::JobFault;
 use ckrt_cli_words::CoreJob;
 use ckrt_disk::{Disk, write_synced};
 use ckrt_gdb_forms::{core_size, write_core};
-use ckrt_inspect::read_program;
+use ckrt_history::read_history;
+use ckrt_inspect::{InspectFault, read_program};
+use ckrt_look_recording::{Recording, make_events};
 use ckrt_machine::Machine;
 use std::alloc::Global;
 use std::io::Read;
@@ -131,14 +134,102 @@ fn make_core_of_opened<'a, I: Read, D: Disk, S: Sources<'a, I, D>>(
     answer
 }
 
-/// Writes what the disk of a path holds as a core into a file beside the path of that, which gets the path once it is whole and
-/// durable: the program after the last event, or as it was after that many. The disk is only read.
+/// How many of the events that were recorded lead to the moment behind that many, or behind the last one; none where it wasn't recorded.
+fn moment_in(recording: &Recording, at: Option<u64>) -> Option<usize>
+    ensures moment { IsMomentIn at (recorded_of recording.now) result }
+    ensures within { IfSome result (λ n. n ≤ length recording.now.events.items) }
+{
+    let Some(at) = at else {
+        return Some(recording.events.len());
+    };
+    if at < recording.first || recording.first + (recording.events.len() as u64) < at {
+        return None;
+    }
+    Some((at - recording.first) as usize)
+}
+
+/// The program behind that many events, or behind the last one, where they were recorded.
+fn program_at(recording: Recording, at: Option<u64>) -> Result<Machine, JobFault>
+    ensures { IsProgramAt at (recorded_of recording) result }
+{
+    let Some(count) = moment_in(&recording, at) else {
+        return Err(JobFault::Unrecorded);
+    };
+    let Recording {
+        mut machine,
+        events,
+        ..
+    } = recording;
+    let (before, _) = events.split_at(count);
+    if !make_events(&mut machine, before) {
+        return Err(JobFault::Inspect(InspectFault::Damaged));
+    }
+    Ok(machine)
+}
+
+/// Makes a core of what was recorded, as it was after that many events.
+fn make_core_of_recorded<'a, I: Read, D: Disk, S: Sources<'a, I, D>>(
+    alloc: Global,
+    recording: Recording,
+    job: &CoreJob<'a>,
+    sources: &mut S,
+) -> Result<(), JobFault>
+    ensures { CoresRecorded D.Disk (S.fills sources.old job.now.file.now) (core_making_of job.now)
+        (recorded_of recording) (S.openings sources.old) (S.openings sources.new) result }
+{
+    match program_at(recording, job.at) {
+        Ok(machine) => make_core::<I, D, S>(alloc, &machine, sources, job.file),
+        Err(fault) => Err(fault),
+    }
+}
+
+/// Makes a core of what a history that was opened has recorded, and closes the history.
+fn make_core_of_history<'a, I: Read, D: Disk, S: Sources<'a, I, D>>(
+    alloc: Global,
+    history: D,
+    job: &CoreJob<'a>,
+    sources: &mut S,
+) -> Result<(), JobFault>
+    ensures { CoresHistory D.Disk (λ start. start ≡ history)
+        (S.fills sources.old job.now.file.now) (core_making_of job.now)
+        (S.openings sources.old) (S.openings sources.new) result }
+{
+    let mut history = history;
+    let answer = match read_history(alloc, &mut history) {
+        Ok(recording) => make_core_of_recorded::<I, D, S>(alloc, recording, job, sources),
+        Err(fault) => Err(JobFault::History(fault)),
+    };
+    sources.close(history);
+    answer
+}
+
+/// Makes a core of what was opened, a history where the words say so, and else a disk, and closes it.
+fn make_core_of_either<'a, I: Read, D: Disk, S: Sources<'a, I, D>>(
+    alloc: Global,
+    opened: D,
+    job: &CoreJob<'a>,
+    sources: &mut S,
+) -> Result<(), JobFault>
+    ensures { CoresAt job.now.history D.Disk (λ start. start ≡ opened)
+        (S.fills sources.old job.now.file.now) (core_making_of job.now)
+        (S.openings sources.old) (S.openings sources.new) result }
+{
+    if job.history {
+        make_core_of_history::<I, D, S>(alloc, opened, job, sources)
+    } else {
+        make_core_of_opened::<I, D, S>(alloc, opened, job, sources)
+    }
+}
+
+/// Writes what the disk or the history of a path holds as a core into a file beside the path of that, which gets the path once it is whole
+/// and durable: the program after the last event, or as it was after that many. The disk or the history is only read.
 ///
 /// # Errors
 ///
-/// The first that applies: `File` of the disk; `Inspect`, where no program is found on it; `OutOfMemory`; `File` of the core,
-/// where something else has its path, where there is no room for it, where a write failed, or where it can't get its name. What
-/// had the path stays as it was then.
+/// The first that applies: `File` of the disk; `Inspect`, where no program is found on it, or an event of the history isn't accepted at its
+/// turn; `History`, where nothing is read of that; `Unrecorded`, where it hasn't recorded that many events, no longer or not yet;
+/// `OutOfMemory`; `File` of the core, where something else has its path, where there is no room for it, where a write failed, or where it
+/// can't get its name. What had the path stays as it was then.
 pub fn core_path<'a, I: Read, D: Disk, S: Sources<'a, I, D>>(
     alloc: Global,
     job: &CoreJob<'a>,
@@ -149,7 +240,7 @@ pub fn core_path<'a, I: Read, D: Disk, S: Sources<'a, I, D>>(
         (S.openings sources.new) result }
 {
     match sources.look_at_disk(job.disk) {
-        Ok(disk) => make_core_of_opened::<I, D, S>(alloc, disk, job, sources),
+        Ok(opened) => make_core_of_either::<I, D, S>(alloc, opened, job, sources),
         Err(fault) => Err(JobFault::File(JobFile::Disk, fault)),
     }
 }

@@ -279,6 +279,7 @@ const STANDARD_OUTPUT: &str = "(standard output)";
 fn looked_at<'a>(job: &Job<'a>) -> Option<(&'a str, bool)> {
     match job {
         Job::Inspect(job) => Some((job.disk, job.history)),
+        Job::Core(job) => Some((job.disk, job.history)),
         Job::Calls(job) => Some((job.disk, job.history)),
         Job::Debug(job) => Some((job.disk, job.history)),
         Job::Races(job) | Job::Check(job) => Some((job.stretch.disk, job.stretch.history)),
@@ -290,6 +291,10 @@ fn looked_at<'a>(job: &Job<'a>) -> Option<(&'a str, bool)> {
 
 /// The path that the words give for a file of their job; empty where they give none, but of an output that is printed.
 fn path<'a>(job: &Job<'a>, file: JobFile) -> &'a str {
+    match (job, file) {
+        (Job::Core(job), JobFile::Core) => return job.file,
+        _ => {}
+    }
     if let Some((path, _)) = looked_at(job) {
         return path;
     }
@@ -303,8 +308,6 @@ fn path<'a>(job: &Job<'a>, file: JobFile) -> &'a str {
         (Job::Drive(job), JobFile::Image) => job.image.unwrap_or(""),
         (Job::Drive(job), JobFile::Input) => job.input.unwrap_or(""),
         (Job::Drive(job), JobFile::History) => job.history.unwrap_or(""),
-        (Job::Core(job), JobFile::Disk) => job.disk,
-        (Job::Core(job), JobFile::Core) => job.file,
         (Job::History(job), JobFile::History) => job.file,
         (Job::History(job), JobFile::Disk) => job.disk.unwrap_or(""),
         (Job::Hunt(job), JobFile::Image) => job.image,

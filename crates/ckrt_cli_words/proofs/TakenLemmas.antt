@@ -80,7 +80,7 @@ drive_rules : AreRules drive_shape refl drive_shape.rules
 drive_rules = ((refl, inl (refl, refl)), ((refl, inl (refl, refl)), ((refl, inl (refl, refl)), ((refl, inl (refl, refl)), ((refl, inl (refl, refl)), ((refl, inl (refl, refl)), ((refl, inl (refl, refl)), ((refl, inl (refl, refl)), ((refl, inl (refl, refl)), ((refl, inl (refl, refl)), ((refl, inl (refl, refl)), ((refl, inl (refl, refl)), ((refl, inl (refl, refl)), ((refl, inr (inr (refl, (_, [], refl)))), ((refl, inl (refl, refl)), ((refl, inl (refl, refl)), ((refl, inl (refl, refl)), ((refl, inl (refl, refl)), ((refl, inl (refl, refl)), ((refl, inr (inl refl)), tt))))))))))))))))))))
 
 core_rules : AreRules core_shape refl core_shape.rules
-core_rules = ((refl, inl (refl, refl)), ((refl, inl (refl, refl)), ((refl, inl (refl, refl)), ((refl, inr (inl refl)), tt))))
+core_rules = ((refl, inl (refl, refl)), ((refl, inl (refl, refl)), ((refl, inr (inr (refl, (_, [], refl)))), ((refl, inl (refl, refl)), ((refl, inr (inl refl)), tt)))))
 
 calls_rules : AreRules calls_shape refl calls_shape.rules
 calls_rules = ((refl, inl (refl, refl)), ((refl, inr (inr (refl, (_, [], refl)))), ((refl, inl (refl, refl)), ((refl, inl (refl, refl)), ((refl, inl (refl, refl)), ((refl, inl (refl, refl)), ((refl, inr (inl refl)), tt)))))))
@@ -134,7 +134,7 @@ core_named words pass =
     let given = both (is_given (codes "disk") rows) (is_given (codes "file") rows && true) (has_required core_shape rows false (level_valid core_shape [] nothing_held words false pass) refl) in
     let disk = value_there core_shape refl (codes "disk") rows _ kept refl (given_found (codes "disk") rows given.0) in
     let file = value_there core_shape refl (codes "file") rows _ kept refl (given_found (codes "file") rows (both (is_given (codes "file") rows) true given.1).0) in
-    (core (record { disk = disk.0; file = file.0; at = place_in (codes "at") rows }), rw (disk.1, file.1) refl)
+    (core (record { disk = disk.0; file = file.0; history = flag_in (codes "history") rows; at = place_in (codes "at") rows }), rw (disk.1, file.1) refl)
 
 -- a stretch, where its disk is given
 stretch_there : (shape : Shape) (once : shape.args_override_self ≡ false) (rows : List Row) (a : Rule) → AreRows shape once rows → arg_by_id shape.rules (codes "disk") ≡ Some a

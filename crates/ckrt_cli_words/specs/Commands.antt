@@ -1,5 +1,5 @@
 -- The program's command line, as `clap` sees it: `format DISK IMAGE [--pages P] [--harts H] [--journal J] [--env NAME=VALUE]`, `run DISK`,
--- `inspect DISK [--history] [--at K] [--code] [--names FILE]`, `core DISK FILE [--at K]`, `calls DISK [--history] [--from K] [--to K] [--last N] [--names FILE]`,
+-- `inspect DISK [--history] [--at K] [--code] [--names FILE]`, `core DISK FILE [--history] [--at K]`, `calls DISK [--history] [--from K] [--to K] [--last N] [--names FILE]`,
 -- `debug DISK [--history] [--at K]`, `races DISK [--history] [--from K] [--to K] [--last N] [--names FILE] [--memory BYTES]`,
 -- `check DISK [--history] [--from K] [--to K] [--last N] [--names FILE] [--memory BYTES]`,
 -- `timeline DISK [--history] [--from K] [--to K] [--last N] [--names FILE] [--width W] [--json]`,
@@ -74,9 +74,10 @@ inspect_app =
 
 abbrev pub core_app : App
 core_app =
-    with_rule (with_rule (with_rule (new_app (codes "core"))
+    with_rule (with_rule (with_rule (with_rule (new_app (codes "core"))
     (needed_rule (codes "disk")))
     (needed_rule (codes "file")))
+    (flag_rule (codes "history")))
     (place_rule (codes "at"))
 
 -- the words of a stretch of what a disk has recorded, behind the name of a command

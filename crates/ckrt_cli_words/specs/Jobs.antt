@@ -39,10 +39,11 @@ pub record Inspection : Type 0 where
   pub at : Option ℕ
   pub code : Bool
 
--- what `core` writes: of which disk, into which file, and after how many events
+-- what `core` writes: of which disk or history, into which file, and after how many events
 pub record CoreMaking : Type 0 where
   pub disk : Text
   pub file : Text
+  pub history : Bool
   pub at : Option ℕ
 
 -- a stretch of what a disk or a history has recorded: of which, whether that is a history, behind how many events it begins, and behind how many
@@ -154,7 +155,12 @@ inspection_of i =
     record { disk = i.disk.now; history = i.history; at = i.at; code = i.code }
 
 abbrev pub core_making_of : CoreJob → CoreMaking
-core_making_of c = record { disk = c.disk.now; file = c.file.now; at = c.at }
+core_making_of c = record {
+  disk = c.disk.now;
+  file = c.file.now;
+  history = c.history;
+  at = c.at;
+}
 
 abbrev pub disk_stretch_of : StretchJob → DiskStretch
 disk_stretch_of s = record { disk = s.disk.now; history = s.history; from = s.from; to = s.to; last = s.last }
@@ -279,7 +285,12 @@ abbrev pub core_making_in : List Row → Option CoreMaking
 core_making_in rows = do
   disk ← first_of (codes "disk") rows
   file ← first_of (codes "file") rows
-  Some (record { disk = disk; file = file; at = place_in (codes "at") rows })
+  Some (record {
+    disk = disk;
+    file = file;
+    history = flag_in (codes "history") rows;
+    at = place_in (codes "at") rows;
+  })
 
 abbrev pub disk_stretch_in : List Row → Option DiskStretch
 disk_stretch_in rows = do

@@ -176,7 +176,7 @@ fn inspect_arguments<'a>(alloc: Global) -> Result<Vec<Arg<'a>>, AllocError>
     Ok(arguments)
 }
 
-/// `core DISK FILE [--at K]`.
+/// `core DISK FILE [--history] [--at K]`.
 fn core_command<'a>(alloc: Global) -> Result<Command<'a>, AllocError>
     ensures app { IfOk result (λ c. app_of c ≡ core_app) }
     ensures local { IfOk result (λ c. (out-Command c).has_globals ≡ false) }
@@ -203,6 +203,7 @@ fn core_arguments<'a>(alloc: Global) -> Result<Vec<Arg<'a>>, AllocError>
             "FILE",
             "The core; nothing but an empty file or another core is replaced"
         ),
+        of_history(alloc),
         place(
             alloc,
             "at",

@@ -67,10 +67,12 @@ pub struct InspectJob<'a> {
 /// What `core` writes, and where.
 #[derive(Clone, Copy, Debug, PartialEq, Eq)]
 pub struct CoreJob<'a> {
-    /// The path of the disk.
+    /// The path of the disk, or of the history.
     pub disk: &'a str,
     /// The path of the core.
     pub file: &'a str,
+    /// Whether the path is that of a history.
+    pub history: bool,
     /// After how many events the program is written; after the last one where this isn't given.
     pub at: Option<u64>,
 }

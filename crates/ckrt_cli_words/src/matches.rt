@@ -57,10 +57,12 @@ fn core_making<'a>(matches: &ArgMatches<'a>) -> Option<CoreJob<'a>>
     ensures { option_map core_making_of result
         ≡ core_making_in (rows_of (found_of matches.now)) }
 {
-    let at = place(matches, "at");
-    let disk = text(matches, "disk")?;
-    let file = text(matches, "file")?;
-    Some(CoreJob { disk, file, at })
+    Some(CoreJob {
+        disk: text(matches, "disk")?,
+        file: text(matches, "file")?,
+        history: flag(matches, "history"),
+        at: place(matches, "at"),
+    })
 }
 
 /// The stretch that was given.

@@ -34,7 +34,7 @@ const INSPECT_USAGE: &str =
     "Usage: ckrt inspect <DISK> [--history] [--at NUMBER OF EVENTS] [--code] [--names <FILE>]";
 
 /// What follows a number of `core` that isn't one.
-const CORE_USAGE: &str = "Usage: ckrt core <DISK> <FILE> [--at NUMBER OF EVENTS]";
+const CORE_USAGE: &str = "Usage: ckrt core <DISK> <FILE> [--history] [--at NUMBER OF EVENTS]";
 
 /// What follows a number of `calls` that isn't one.
 const CALLS_USAGE: &str =
@@ -150,7 +150,7 @@ fn is_version(words: &[&str]) -> bool
 /// `hunt` has no seeds, no seconds, 64 pages, 1 hart, no file of its input, runs of at most 10,000,000 steps, no look at races or errors of memory and no bytes of its shadow, outcomes that outputs tell apart, of many outputs the commonest alone, no disk, no file of its table and no line of progress where these aren't given;
 /// the numbers that are have to be below 2^32 and, of seconds and bytes, 2^64. The text of the seeds is handed on as it is.
 ///
-/// DISK of `calls`, `races`, `check`, `timeline`, `profile` and `debug` is a history where
+/// DISK of `core`, `calls`, `races`, `check`, `timeline`, `profile` and `debug` is a history where
 /// `--history` is given. It is a disk where that isn't. `history` brings FILE up to a disk where
 /// `--disk` is given. It only looks at FILE where that isn't.
 ///

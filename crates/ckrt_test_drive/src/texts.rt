@@ -133,6 +133,16 @@ const FILES: &[Absent] = &[
         "the core c: there is no such file\nckrt: File\n",
     ),
     (
+        "core h c --history",
+        JobFile::Disk,
+        "the history h: there is no such file\nckrt: File\n",
+    ),
+    (
+        "core h c --history",
+        JobFile::Core,
+        "the core c: there is no such file\nckrt: File\n",
+    ),
+    (
         "calls d",
         JobFile::Disk,
         "the disk d: there is no such file\nckrt: File\n",
