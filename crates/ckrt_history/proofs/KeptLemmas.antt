@@ -1,23 +1,22 @@
 -- What a drive's history has beside what its disk recovers to.
-use Rattle.std.proofs.Common.{◌≡◌, ◌⊎◌, inl, inr, ⊎_elim, ℕ, ◌+◌, ◌-◌, ◌≤◌, Bool, true, false, List, [], ◌∷◌, ◌++◌, length, take, drop, Result, Ok, Err, refl, sym, ◌∙◌, ap, subst, arith, append_assoc, append-nil, length-append, length-drop}
+use Rattle.std.proofs.Common.{◌≡◌, ◌⊎◌, inl, inr, ⊎_elim, ℕ, ◌-◌, ◌≤◌, Bool, true, false, List, [], ◌∷◌, ◌++◌, length, take, drop, Result, Ok, Err, refl, sym, ◌∙◌, ap, subst, arith, append-nil, length-append, length-drop}
 use Rattle.std.proofs.lemmas.List.{drop-append-le, take-append-drop, take-append-le, take_all, length-take-le}
-use Rattle.ckrt_disk.specs.Disk.{IsImage, LeavesOnly}
+use Rattle.ckrt_disk.specs.Disk.{IsImage}
 use Rattle.ckrt_disk.specs.Frame.{MayBeLeft}
 use Rattle.ckrt_disk.specs.Lists.{IsBeginningOf}
 use Rattle.ckrt_disk.specs.declared.disk.Disk.{Ghosts}
 use Rattle.ckrt_disk.proofs.ListLemmas.{begins_itself, begins_more, begins_through, take_begins, taken_begins}
 use Rattle.ckrt_events.specs.declared.event.Event.{Event}
-use Rattle.ckrt_look_recording.specs.Recording.{HasRecording, Recorded}
+use Rattle.ckrt_look_recording.specs.Recording.{Recorded}
 use Rattle.ckrt_look_recording.proofs.RecordedLemmas as recordings
 use Rattle.ckrt_recovery.proofs.AcceptLemmas.{since_start}
 use Rattle.ckrt_recovery.proofs.CommitLemmas.{decoded, none_pending}
 use Rattle.ckrt_recovery.specs.Represents.{RecoversToEither, Represents, acknowledged_of}
 use Rattle.ckrt_recovery.specs.View.{View, view_of}
 use Rattle.ckrt_recovery.specs.declared.session.Session.{Session}
-use Rattle.ckrt_stored.specs.Programs.{Program, RecoversTo}
+use Rattle.ckrt_stored.specs.Programs.{Program}
 use Rattle.ckrt_stored.specs.Write.{IsDurable}
 use Rattle.ckrt_drive.proofs.PlannedLemmas.{all_acknowledged}
-use Rattle.ckrt_drive.specs.Plan.{plan}
 use Rattle.ckrt_drive.specs.Steps.{Steps, accepted_in, aim_of}
 use Rattle.ckrt_drive.specs.declared.fault.DriveFault.{DriveFault}
 use Rattle.ckrt_drive.specs.declared.fault.DriveFault.TheVariants as drive
@@ -131,25 +130,37 @@ module _ {D O K : Type 0} {d : Ghosts D} {o : Ghosts O} {k : Ghosts K} (options 
         keeps.0.durable honest,
       )
 
-  -- a step was kept
-  step_kept : (w : Supply) (result : Result StepDone DriveFault) → Steps o (aim_of options w (view_of x.stage.session)) x.stage.session y.stage.session x.stage.output y.stage.output result
-      → Keeps k x.place (owed_by result x.stage.session.pending.items) x.file y.file y.place (Ok tt) → k.is_honest y.file → HasAcknowledged r from (events ++ accepted_in result) y
+  -- a step was kept that was no commit
+  quiet_kept : (more : List Event) → y.stage.session.acknowledged ≡ x.stage.session.acknowledged → (y.file ≡ x.file) × (y.place ≡ x.place) → HasAcknowledged r from (events ++ more) y
+  quiet_kept more quiet same =
+      let after = unchanged same in
+      record {
+        begun = omega (arith, has.begun, quiet);
+        ends = subst (λ (l : List Event). EndsAt y.place (k.content y.file) (grown r from l)) (sym (same_acknowledged events more x.stage.session y.stage.session reps.acknowledged quiet)) after.0;
+        durable = after.1;
+      }
+
+  -- or a commit was
+  commit_kept : y.stage.session.acknowledged ≡ length events → Keeps k x.place x.stage.session.pending.items x.file y.file y.place (Ok tt) → k.is_honest y.file → HasAcknowledged r from (events ++ []) y
+  commit_kept all keeps honest =
+      let after = after_commit x.stage.session.pending.items refl keeps honest in
+      record {
+        begun = omega (arith, has.begun, reps.acknowledged, all);
+        ends = subst (λ (l : List Event). EndsAt y.place (k.content y.file) (grown r from l)) (sym (all_of events y.stage.session all)) after.0;
+        durable = after.1;
+      }
+
+  abbrev Makes : Supply → Result StepDone DriveFault → Type 0
+  Makes w result = Steps o (aim_of options w (view_of x.stage.session)) x.stage.session y.stage.session x.stage.output y.stage.output result
+
+  abbrev IsKeptBy : Result StepDone DriveFault → Result (Unit {0}) KeepingFault → Type 0
+  IsKeptBy result kept = Keeps k x.place (owed_by result x.stage.session.pending.items) x.file y.file y.place kept
+
+  step_kept : (w : Supply) (result : Result StepDone DriveFault) → Makes w result → IsKeptBy result (Ok tt) → k.is_honest y.file → HasAcknowledged r from (events ++ accepted_in result) y
   step_kept w result steps keeps honest = elim (still o options w x.stage.session y.stage.session x.stage.output y.stage.output result steps) [
-    | inl quiet ↦ (let same = unchanged (none_owed (Ok tt) (owed_by result x.stage.session.pending.items) quiet.1 keeps) in record {
-      begun = omega (arith, has.begun, quiet.0);
-      ends = subst (λ (l : List Event). EndsAt y.place (k.content y.file) (grown r from l)) (sym (same_acknowledged events (accepted_in result) x.stage.session y.stage.session reps.acknowledged quiet.0)) same.0;
-      durable = same.1;
-    })
-    | inr is ↦ (
-        let steps_so = subst (λ z. Steps o (aim_of options w (view_of x.stage.session)) x.stage.session y.stage.session x.stage.output y.stage.output z) is steps in
-        let all : y.stage.session.acknowledged ≡ length events = commits o options w x.stage.session y.stage.session x.stage.output y.stage.output p events reps steps_so in
-        let after = after_commit x.stage.session.pending.items refl (subst (λ z. Keeps k x.place (owed_by z x.stage.session.pending.items) x.file y.file y.place (Ok tt)) is keeps) honest in
-        subst (λ z. HasAcknowledged r from (events ++ accepted_in z) y) (sym is) (record {
-          begun = omega (arith, has.begun, reps.acknowledged, all);
-          ends = subst (λ (l : List Event). EndsAt y.place (k.content y.file) (grown r from l)) (sym (all_of events y.stage.session all)) after.0;
-          durable = after.1;
-        })
-        )
+    | inl quiet ↦ quiet_kept (accepted_in result) quiet.0 (none_owed (Ok tt) (owed_by result x.stage.session.pending.items) quiet.1 keeps)
+    | inr is ↦ subst (λ z. HasAcknowledged r from (events ++ accepted_in z) y) (sym is)
+        (commit_kept (commits o options w x.stage.session y.stage.session x.stage.output y.stage.output p events reps (subst (Makes w) is steps)) (subst (λ z. IsKeptBy z (Ok tt)) is keeps) honest)
   ]
 
   -- AT EACH MOMENT
@@ -176,9 +187,6 @@ module _ {D O K : Type 0} {d : Ghosts D} {o : Ghosts O} {k : Ghosts K} (options 
 
     module _ (law : (disk : D) (image : List ℕ) → d.is_honest disk → d.left_since disk (d.moment disk) image → IsImage (d.content disk) (d.pending disk) image)
         (w : Supply) (kept : Result (Unit {0}) KeepingFault) (disk_honest : d.is_honest y.stage.session.disk) (file_honest : k.is_honest y.file) where
-      abbrev Makes : Result StepDone DriveFault → Type 0
-      Makes result = Steps o (aim_of options w (view_of x.stage.session)) x.stage.session y.stage.session x.stage.output y.stage.output result
-
       -- these bytes have a beginning of whatever the image recovers to
       beside : (front all : List Event) (image file : List ℕ) → IsBeginningOf front (acknowledged_of all y.stage.session) → IsBeginningOf front all → Represents p all y.stage.session → MayBeLeft d y.stage.session.disk image → HasHistory file (grown r from front)
           → GoTogether p r from y.stage.session.progress.confirmed image file
@@ -188,21 +196,21 @@ module _ {D O K : Type 0} {d : Ghosts D} {o : Ghosts O} {k : Ghosts K} (options 
           (represented_by y.stage.session.failed p all y.stage.session image refl reps_then left)
 
       -- while the step is made
-      stepping : (result : Result StepDone DriveFault) → Makes result → (image file : List ℕ) → d.left_since y.stage.session.disk (d.moment x.stage.session.disk) image → MayBeLeft k x.file file
+      stepping : (result : Result StepDone DriveFault) → Makes w result → (image file : List ℕ) → d.left_since y.stage.session.disk (d.moment x.stage.session.disk) image → MayBeLeft k x.file file
           → GoTogether p r from y.stage.session.progress.confirmed image file
       stepping result steps image file left might =
           let between = since_start law (accepted_in result) x.stage.session y.stage.session steps.accepts disk_honest p events reps image left in
           record { all = between.events; recovers = between.to; kept = few; begins = between.begins; has = left_before file might }
 
       -- while the batch is appended
-      appending_few : (result : Result StepDone DriveFault) → Makes result → (image file : List ℕ) → MayBeLeft d y.stage.session.disk image → HasHistory file (grown r from few) → GoTogether p r from y.stage.session.progress.confirmed image file
+      appending_few : (result : Result StepDone DriveFault) → Makes w result → (image file : List ℕ) → MayBeLeft d y.stage.session.disk image → HasHistory file (grown r from few) → GoTogether p r from y.stage.session.progress.confirmed image file
       appending_few result steps image file might is =
           beside few (events ++ accepted_in result) image file
           (taken_begins x.stage.session.acknowledged y.stage.session.acknowledged events (accepted_in result) reps.acknowledged steps.accepts.acknowledged)
           (begins_more few events (accepted_in result) (take_begins x.stage.session.acknowledged events))
           (steps.accepts.represents disk_honest p events reps) might is
 
-      appending_all : Makes (Ok Committed) → (image file : List ℕ) → MayBeLeft d y.stage.session.disk image → HasHistory file (grown r from events) → GoTogether p r from y.stage.session.progress.confirmed image file
+      appending_all : Makes w (Ok Committed) → (image file : List ℕ) → MayBeLeft d y.stage.session.disk image → HasHistory file (grown r from events) → GoTogether p r from y.stage.session.progress.confirmed image file
       appending_all steps image file might is =
           let all = commits o options w x.stage.session y.stage.session x.stage.output y.stage.output p events reps steps in
           beside events (events ++ []) image file
@@ -210,17 +218,17 @@ module _ {D O K : Type 0} {d : Ghosts D} {o : Ghosts O} {k : Ghosts K} (options 
           ([], refl)
           (steps.accepts.represents disk_honest p events reps) might is
 
-      appending : (result : Result StepDone DriveFault) → Makes result → Keeps k x.place (owed_by result x.stage.session.pending.items) x.file y.file y.place kept → (image file : List ℕ) → MayBeLeft d y.stage.session.disk image → k.left_since y.file (k.moment x.file) file
+      appending : (result : Result StepDone DriveFault) → Makes w result → IsKeptBy result kept → (image file : List ℕ) → MayBeLeft d y.stage.session.disk image → k.left_since y.file (k.moment x.file) file
           → GoTogether p r from y.stage.session.progress.confirmed image file
       appending result steps keeps image file might left = elim (still o options w x.stage.session y.stage.session x.stage.output y.stage.output result steps) [
         | inl quiet ↦ appending_few result steps image file might (left_still file (none_owed kept (owed_by result x.stage.session.pending.items) quiet.1 keeps).0 left)
         | inr is ↦ ⊎_elim
             (λ (as_before : _). appending_few result steps image file might as_before)
-            (λ (more : _). appending_all (subst Makes is steps) image file might more)
-            (left_appending kept x.stage.session.pending.items refl (subst (λ z. Keeps k x.place (owed_by z x.stage.session.pending.items) x.file y.file y.place kept) is keeps) file_honest file left)
+            (λ (more : _). appending_all (subst (Makes w) is steps) image file might more)
+            (left_appending kept x.stage.session.pending.items refl (subst (λ z. IsKeptBy z kept) is keeps) file_honest file left)
       ]
 
-      pub at_each_moment : (result : Result StepDone DriveFault) → Makes result → Keeps k x.place (owed_by result x.stage.session.pending.items) x.file y.file y.place kept → AtEachMoment p r from x y
+      pub at_each_moment : (result : Result StepDone DriveFault) → Makes w result → IsKeptBy result kept → AtEachMoment p r from x y
       at_each_moment result steps keeps = record { stepping = stepping result steps; appending = appending result steps keeps }
 
 -- STEP AFTER STEP
