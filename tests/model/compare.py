@@ -23,6 +23,7 @@ from cases.histories import HistoriesCase, is_turned
 from cases.hunted import HuntsCase, difference_of_hunts
 from cases.images import ImagesCase, difference_of_images
 from cases.inputs import InputsCase, difference_of_inputs
+from cases.kept import KeptCase, difference_of_kept
 from cases.kinds import KINDS, Case, case_of
 from cases.lived import LivedCase, difference_of_lived
 from cases.lockers import LockersCase
@@ -344,7 +345,7 @@ OF_DISK_COUNTED = {LivesCase: difference_of_stops, TracedCase: difference_of_fat
 OF_FOLDER_COUNTED = {
     Case: difference_of_lives, HaltsCase: difference_of_halts, InputsCase: difference_of_inputs, MixedCase: difference_of_mixed,
     DrivesCase: difference_of_drives, ImagesCase: difference_of_images, SchedulesCase: difference_of_schedules,
-    BesideCase: difference_of_beside,
+    BesideCase: difference_of_beside, KeptCase: difference_of_kept,
 }
 
 

@@ -12,7 +12,7 @@ from cases.histories import is_turned, with_saves
 from cases.mixed import DriveStep, Lines, MixedCase, Mixing
 from cases.readers import READERS
 from cases.streams import joined
-from model.beside import FIELDS, LEAST, MARK, KeptHistory, Unkept, is_free, lacking, read_front, read_history, recorded_by
+from model.beside import FIELDS, FRONT, LEAST, MARK, KeptHistory, Unkept, brought_up, read_front, read_history, recorded_by
 from model.call_lines import kind_of_line
 from model.events import Eof, Input, Place, Run, RunLong, Tick
 from model.layout import CLOSED, OPEN, PAGES_AT, Geometry, format_disk
@@ -75,15 +75,20 @@ def drawn_ask(chance, number):
     return Ask(which, back, chance.choice(APART) if which == APART_FROM else b"", chance.random() < 0.7, chance.choice([0, 0, 1, 3]))
 
 
-def beside_case(chance, case):
-    """Half of them with an input. Journals are short, so that there are checkpoints in drives too."""
+def fed_in_pieces(chance, case, events):
+    """Half of them with an input. Journals are short, so that there are checkpoints in drives too, of so many events each."""
     fed = unfed_case(chance, case)
     if chance.random() < 0.5:
         fed = reading_case(chance, fed, chance.choice([None, *READERS]))
         fed.data = fed.data[:chance.choice([100, 700])]
     fed.geometry = replace(fed.geometry, journal=chance.choice([4096, 4096, 8192]))
-    fed.drives = [replace(options, turn=min(options.turn, 300), events=chance.choice([0, 1, 7, 40, 90]), is_other=SWITCHES.schedules) for options in fed.drives]
+    fed.drives = [replace(options, turn=min(options.turn, 300), events=chance.choice(events), is_other=SWITCHES.schedules) for options in fed.drives]
     fed.feedings = [Feeding() if fed.data else UNFED]
+    return fed
+
+
+def beside_case(chance, case):
+    fed = fed_in_pieces(chance, case, [0, 1, 7, 40, 90])
     pieces = Pieces(chance, fed, case.lives[0].splitlines())
     for _ in range(chance.choice([2, 4, 6, 9])):
         pieces.step()
@@ -158,14 +163,10 @@ class Beside:
 
     def expected(self, disk):
         """The fault, or what the history has then, with the line that says what was done."""
-        recorded = recorded_by(bytearray(disk))
-        if self.kept is None:
-            return (None, recorded, "begun") if is_free(contents(self.path)) else ("NotAHistory", None, None)
         try:
-            more = lacking(self.kept, recorded)
+            return None, *brought_up(self.kept, contents(self.path), recorded_by(bytearray(disk)))
         except Unkept as fault:
             return str(fault), self.kept, None
-        return None, self.kept.with_more(more), f"appended {len(more)}"
 
     def bring_up(self, disk):
         before, (fault, kept, head) = contents(self.path), self.expected(disk)
@@ -181,7 +182,14 @@ class Beside:
         return self.difference_of_file(before, disk, kept, head, shown)
 
     def difference_of_file(self, before, disk, kept, head, shown):
-        """The file is read by the model: it has what the history has, and what stood before the gate that ended it. Only where batches end is left open."""
+        difference = self.difference_of_bytes(before, disk, kept)
+        if difference is None and shown != printed(head, *lines_of_span(kept, self.length)):
+            return f"history: model {head} and {lines_of_span(kept, self.length)}, program {shown}"
+        return difference
+
+    def difference_of_bytes(self, before, disk, kept):
+        """The file is read by the model: it has what the history has, and what stood before the gate that ended it, or what the disk had from which it
+        was begun. Only where batches end is left open. What is told of it is compared, too."""
         data = self.path.read_bytes()
         try:
             found, length = read_history(data)
@@ -189,14 +197,13 @@ class Beside:
             return f"history: {fault} of the program's bytes"
         if not found.is_same(kept):
             return f"history: model {kept}, program's bytes {found}"
-        if shown != printed(head, *lines_of_span(kept, length)):
-            return f"history: model {head} and {lines_of_span(kept, length)}, program {shown}"
-        is_prefix = data[:self.length - 1] == before[:self.length - 1] if self.kept else data[4096:length - 1] == disk[4096:length - 1]
+        size = read_front(data).size
+        is_prefix = data[:self.length - 1] == before[:self.length - 1] if self.kept else data[FRONT:size] == disk[FRONT:size]
         if not is_prefix:
             return "history: bytes that were there are others"
         self.kept, self.length = kept, length
-        again = told_by(self.ckrt, "history", self.path)
-        return None if again == printed(*lines_of_span(kept, length)) else f"history without a disk: {again}"
+        told = told_by(self.ckrt, "history", self.path)
+        return None if told == printed(*lines_of_span(kept, length)) else f"history without a disk: {told}"
 
     def difference_of_looks(self, count):
         """On stretches of the events."""

@@ -52,7 +52,7 @@ class End:
     text: str = ""
 
 
-def drive_of_model(disk, output, options, tally, feeding, whole, path):
+def drive_of_model(disk, output, options, tally, feeding, whole, path, keeper=None):
     """The status, and the faults of which the program tells one; nothing is changed where there are any."""
     if feeding.is_out_of_range:
         return 1, [Undriven("Range")]
@@ -60,7 +60,7 @@ def drive_of_model(disk, output, options, tally, feeding, whole, path):
         return 1, [Undriven("File", path), *faults_of_start(disk, output, feeding, options=options)]
     data = feeding.data(whole)
     try:
-        return Drive(MemoryDisk(disk), output, options, tally, data, feeding.said).run(), []
+        return Drive(MemoryDisk(disk), output, options, tally, data, feeding.said, keeper).run(), []
     except Undriven:
         return 1, faults_of_start(disk, output, feeding, data, options)
 
@@ -136,15 +136,18 @@ def cut(output, length):
 class Driven:
     """The case's disk, or one that is begun, with the bytes of its output; none where the first drive makes it.
 
-    Each method does something on both sides, and answers None or in a few words where they differ.
+    Each method does something on both sides, and answers None or in a few words where they differ. `more` are further words of a drive, and
+    `keeper` keeps its history, where it has one.
     """
+
+    FAULTS_BEHIND_ROOM = "OutputDiffers",
 
     def __init__(self, ckrt, case, folder, name, tally, count_life, begun=None):
         self.ckrt, self.case, self.tally, self.count_life = ckrt, case, tally, count_life
         self.folder, self.name = folder.resolve(), name
         self.path, self.out = (self.folder / f"{name}.{end}" for end in ("disk", "out"))
         self.disk, self.output = begun or (case.disk(), bytearray())
-        self.making = []
+        self.making, self.more, self.keeper = [], [], None
         self.path.unlink(missing_ok=True)
         if self.disk is not None:
             self.path.write_bytes(self.disk)
@@ -169,23 +172,23 @@ class Driven:
             for outcome in [str(fault) for fault in expected[1]] or [f"status {expected[0]}"]:
                 self.tally["drive", outcome] += 1
             self.count_life(1)
-            words = [*self.making, *feeding.words(path)]
+            words = [*self.making, *self.more, *feeding.words(path)]
             shown = drive_of_program(self.ckrt, self.path, self.out, options, words, stdin, self.folder)
-        if shown.fault == "OutputDiffers":
+        if shown.fault in self.FAULTS_BEHIND_ROOM:
             self.allow_room()
         return difference_of_ends(expected, shown) or self.difference_of_files()
 
     def allow_room(self):
-        """Where the output doesn't fit the disk may have been given room for the record of its input already."""
+        """Where the output doesn't fit, the disk may have been given room for the record of its input already."""
         room = self.case.geometry.size + RECORD_LENGTH
         if self.path.stat().st_size == room:
             self.disk = self.disk.ljust(room, b"\0")
 
     def drive_of_model(self, options, feeding, path):
-        """A missing disk is made, with room for the record, unless the words are out of range."""
+        """A missing disk is made, with an input with room for its record, unless the words are out of range."""
         if self.disk is None and not feeding.is_out_of_range:
-            self.disk = bytearray(format_disk(self.case.geometry, self.case.image)) + bytes(RECORD_LENGTH)
-        return drive_of_model(self.disk, self.output, options, self.tally, feeding, self.case.data, path)
+            self.disk = bytearray(format_disk(self.case.geometry, self.case.image)) + bytes(RECORD_LENGTH * feeding.is_fed)
+        return drive_of_model(self.disk, self.output, options, self.tally, feeding, self.case.data, path, self.keeper)
 
     def serve(self, data, is_kept):
         """A life of lines. What it puts is kept in the output by its offset, or isn't."""

@@ -19,6 +19,7 @@ from cases.histories import histories_case
 from cases.hunted import hunts_case
 from cases.images import images_case
 from cases.inputs import inputs_case
+from cases.kept import kept_case
 from cases.kitted import Kitted, kit_case
 from cases.limits import limit_case
 from cases.lived import Living, lived_case
@@ -266,7 +267,7 @@ KINDS = {
     "lived": of_guests(Living, lived_case, 1), "timed": timed_case, "raced": raced_case, "checked": checked_case, "many": many_case,
     "words": words_case, "drives": of_guest(drives_case), "halts": of_guest(halts_case),
     "inputs": of_guest(inputs_case), "images": of_guest(images_case), "schedules": of_guest(schedules_case), "mixed": of_guest(mixed_case), "rounds": rounds_case,
-    "beside": of_guest(beside_case),
+    "beside": of_guest(beside_case), "kept": of_guest(kept_case),
 }
 
 

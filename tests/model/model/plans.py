@@ -1,7 +1,7 @@
 """Unattended drives: what a drive does next, from its options, the number of events so far and the machine alone."""
 from dataclasses import dataclass
 
-from model.events import LONG_RUN, Place, Run, RunLong, Tick, VERSION_OF_LONG_RUNS
+from model.events import LONG_RUN, Place, Run, RunLong, Tick, VERSION_OF_LONG_RUNS, decode_events
 from model.devices import MemoryDisk
 from model.feeding import Supply, Undriven
 from model.layout import BATCH_LIMIT
@@ -139,11 +139,14 @@ def begin(disk, options, data, said):
 class Drive:
     """A drive of a disk; `output` are the bytes of its file, and `data` those of its input, if it has one.
 
-    `said` is how much of that the words say that the program had taken.
+    `said` is how much of that the words say that the program had taken. `keeper` keeps a history of the disk, where one is kept.
     """
 
-    def __init__(self, disk, output, options, tally, data=None, said=None):
+    def __init__(self, disk, output, options, tally, data=None, said=None, keeper=None):
         begin(disk, options, data, said)
+        self.keeper = keeper
+        if keeper is not None:
+            keeper.begin(disk)
         self.session, self.output, self.options = Session(disk, tally), output, options
         self.acknowledged, self.left = self.session.events, options.events
         require_fit(self.session, len(output))
@@ -170,7 +173,7 @@ class Drive:
         if session.recovered.version < VERSION_OF_LONG_RUNS or not self.unacknowledged and self.is_crowded:
             return self.save(self.checkpoint)
         if self.unacknowledged >= self.options.rounds * round_length(session.machine):
-            return self.save(session.commit)
+            return self.save(self.commit)
         return self.go_on()
 
     def go_on(self):
@@ -195,17 +198,25 @@ class Drive:
             self.left = None if self.left is None else self.left - 1
             return None
         if refusal[1] in SHORTAGES:
-            return self.save(self.session.commit if self.unacknowledged else self.checkpoint)
+            return self.save(self.commit if self.unacknowledged else self.checkpoint)
         return 1
 
     def end(self, status):
-        return self.save(self.session.commit) if self.unacknowledged else status
+        return self.save(self.commit) if self.unacknowledged else status
 
     def status(self):
         machine = self.session.machine
         if machine.status is Status.FAULTED:
             return 6
         return 7 if machine.status_word else 0
+
+    def commit(self):
+        """With a history, a batch that is durable on the disk is appended to it, before anything else is done."""
+        batch = decode_events(bytes(self.session.pending), VERSION_OF_LONG_RUNS)
+        reply = self.session.commit()
+        if self.keeper is not None and batch and reply.startswith("ack"):
+            self.keeper.append(batch)
+        return reply
 
     def checkpoint(self):
         """With an input, how much of it is taken is recorded first."""

@@ -13,6 +13,7 @@ from model.feeding import COUNTERS, RECORD_LENGTH, Slot, Supply, Undriven
 from model.layout import Geometry, format_disk
 from model.plans import OWNERS, Drive, Options, begin, bounds_of, draw, owner_of, round_length, thread_for
 from model.schedules import IN_USE_AT, NOTES_AT, in_use, note_schedule
+from unit.stand_in_histories import WRONG_KEEPERS, FileKeeper
 
 OPTIONS = ("--turn", "--rounds-per-commit", "--seed", "--events")
 OTHER = "--other-schedule"
@@ -42,8 +43,9 @@ def drive(path, *options, **wrong):
     plans.owner_of, plans.thread_for = wrong.get("owner", owner_of), wrong.get("thread", thread_for)
     plans.bounds_of, plans.begin = wrong.get("bounds", bounds_of), wrong.get("begin", begin)
     schedules.note_schedule = plans.note_schedule = wrong.get("notes", note_schedule)
+    keeper = wrong.get("keeper", FileKeeper)(words["--history"]) if "--history" in words else None
     try:
-        return Drive(MemoryDisk(contents), held, Options(*map(numbers.get, OPTIONS), is_other), None, data, said).run()
+        return Drive(MemoryDisk(contents), held, Options(*map(numbers.get, OPTIONS), is_other), None, data, said, keeper).run()
     except Undriven as fault:
         raise Undriven(str(fault), *fault.told * wrong.get("tells", True)) from fault
     finally:
@@ -191,4 +193,5 @@ WRONG_DRIVES = {"reads anything": {"reads": bytes_of_any}, "early": {"supply": E
                 "without the tick": {"owner": owner_without_tick}, "63 owners": {"owner": one_of_63}, "empty harts alone": {"thread": onto_empty},
                 "even if it waits": {"thread": even_if_it_waits}, "without owners": {"thread": without_owners}, "unfolded": {"thread": unfolded},
                 "undrawn": {"bounds": undrawn}, "drawn of 63": {"bounds": drawn_of_63}, "obliging": {"begin": obliging}, "unnoted": {"begin": unnoted},
-                "before input": {"begin": before_input}, "over the old": {"notes": over_the_old}, "first alone": {"notes": first_alone}}
+                "before input": {"begin": before_input}, "over the old": {"notes": over_the_old}, "first alone": {"notes": first_alone},
+                **{which: {"keeper": keeper} for which, keeper in WRONG_KEEPERS.items()}}

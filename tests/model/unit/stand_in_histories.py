@@ -1,20 +1,13 @@
-"""The word `history` of a `ckrt` made of the model, and its `calls --history`; and wrong parts of these, which the driver has to find."""
+"""The word `history` of a `ckrt` made of the model, its `calls --history`, and what keeps a history while it drives; and wrong parts of these, which the
+driver has to find."""
 from pathlib import Path
 
 from cases.damage import batch
 from cases.histories import is_turned
-from model.beside import MARK, KeptHistory, Unkept, is_free, lacking, read_front, read_history, recorded_by
-from model.layout import BATCH_LIMIT, OPEN, SUPERBLOCK_AT, Geometry
+from model.beside import MARK, KeptHistory, Unkept, begun_from, is_free, lacking, read_front, read_history, recorded_by
+from model.feeding import Undriven
+from model.layout import BATCH_LIMIT, CLOSED, OPEN, SUPERBLOCK_AT
 from model.listing import OutOfRange
-
-FRONT = 4096
-
-
-def begun(disk):
-    """The bytes of a history that was just begun."""
-    size = Geometry(*(int.from_bytes(disk[at:at + 4], "little") for at in (20, 24, 28))).size
-    front = bytes([OPEN]) + bytes(SUPERBLOCK_AT - 1) + MARK + disk[20:72]
-    return front.ljust(FRONT, b"\0") + disk[FRONT:size] + b"\0"
 
 
 def batches_of(events):
@@ -37,7 +30,7 @@ def brought_up(contents, disk, lacks, free):
     if not is_named(contents):
         if not free(contents):
             raise Unkept("NotAHistory")
-        return begun(disk), "begun"
+        return begun_from(disk), "begun"
     kept, length = read_history(contents)
     more = lacks(kept, recorded)
     return contents[:length - 1] + b"".join(batches_of(more)) + b"\0", f"appended {len(more)}"
@@ -49,7 +42,7 @@ def history(path, option=None, disk=None, lacks=lacking, free=is_free, span=lamb
     if option:
         before = file.read_bytes() if file.exists() else b""
         data, line = brought_up(before, Path(disk).read_bytes(), lacks, free)
-        file.write_bytes(data if is_kept else begun(Path(disk).read_bytes()))
+        file.write_bytes(data if is_kept else begun_from(Path(disk).read_bytes()))
         lines = [line]
     kept, length = read_history(file.read_bytes())
     return [*lines, "events {} to {}".format(*span(kept)), f"bytes {length}"]
@@ -90,6 +83,86 @@ def as_on_a_disk(contents):
     return read_history(contents[:size] + b"\0")
 
 
+class FileKeeper:
+    """Keeps a history in its file, batch by batch."""
+
+    def __init__(self, path, lacks=lacking, free=is_free):
+        self.path, self.lacks, self.free = Path(path), lacks, free
+        self.data = self.path.read_bytes() if self.path.exists() else b""
+
+    def put(self, data):
+        self.data = data
+        self.path.write_bytes(data)
+
+    def begin(self, disk):
+        disk.sync()
+        try:
+            self.put(brought_up(self.data, disk.read(0, len(disk)), self.lacks, self.free)[0])
+        except Unkept as fault:
+            raise Undriven(str(fault), self.path) from fault
+
+    def append(self, events):
+        end = read_history(self.data)[1] - 1
+        self.put(self.data[:end] + batch(b"".join(event.encoding() for event in events), b"") + bytes([CLOSED]))
+
+
+class Unkeeping(FileKeeper):
+    """Begins a history and goes on with none."""
+
+    def append(self, events):
+        pass
+
+
+class Skipping(FileKeeper):
+    """Leaves the first batch of each drive out."""
+
+    def begin(self, disk):
+        super().begin(disk)
+        self.is_first = True
+
+    def append(self, events):
+        if not self.is_first:
+            super().append(events)
+        self.is_first = False
+
+
+class Doubling(FileKeeper):
+    """Has more batches than the disk: each is there twice."""
+
+    def append(self, events):
+        super().append(events)
+        super().append(events)
+
+
+class Anew(FileKeeper):
+    """Begins it from the disk, where it should be brought up to that."""
+
+    def begin(self, disk):
+        super().begin(disk)
+        self.put(begun_from(disk.read(0, len(disk))))
+
+
+class Unread(FileKeeper):
+    """Takes no look at what a history that is there lacks."""
+
+    def begin(self, disk):
+        if not is_named(self.data):
+            super().begin(disk)
+
+
+class Writing(FileKeeper):
+    """Refuses a file, and has made it longer before."""
+
+    def begin(self, disk):
+        try:
+            super().begin(disk)
+        except Undriven:
+            self.put(self.data + bytes(1))
+            raise
+
+
+WRONG_KEEPERS = {"unkeeping": Unkeeping, "skipping": Skipping, "doubling": Doubling, "anew": Anew, "unread": Unread, "writing": Writing,
+                 "uncomparing": lambda path: FileKeeper(path, lacks=uncompared), "begins anywhere": lambda path: FileKeeper(path, free=lambda contents: True)}
 WRONG_HISTORIES = {
     "without the last": {"lacks": without_the_last}, "the last again": {"lacks": with_the_last_again}, "uncompared": {"lacks": uncompared}, "with a gap": {"lacks": with_a_gap},
     "anywhere": {"free": lambda contents: True}, "in zeros alone": {"free": lambda contents: not any(contents)}, "from 0 on": {"span": lambda kept: (0, kept.last)},

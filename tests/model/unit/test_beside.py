@@ -7,14 +7,14 @@ from cases.beside import FREE, NOT_FREE, Changed, with_what_is_open
 from cases.damage import batch
 from cases.glances import Glance
 from cases.kinds import case_of
-from model.beside import FIELDS, KeptHistory, Unkept, is_free, lacking, read_history, recorded_by
+from model.beside import FIELDS, KeptHistory, Unkept, begun_from, is_free, lacking, read_history, recorded_by
 from model.events import Input, Place, Run, RunLong, Tick
 from model.layout import Geometry, format_disk
 from model.lines import serve_disk
 from model.listing import OutOfRange
 from model.recovery import Unrecovered
 from model.switches import switched
-from unit.stand_in_histories import begun, brought_up
+from unit.stand_in_histories import brought_up
 from unit.test_call_lines import LED, LED_LINES
 from unit.test_rows import GETS, PUTS_A, SMALL
 
@@ -235,7 +235,7 @@ class BringingUp(Beside):
 
     def test_brought_up(self):
         """The stand-in's own bytes: of many events there are several batches, and what was there stays."""
-        self.assertEqual(begun(self.disk), history_of(self.disk))
+        self.assertEqual(begun_from(self.disk), history_of(self.disk))
         ticks = [f"tick {number}" for number in range(1, 1501)]
         disk = disk_of(*LED, *ticks[:600], "commit", "checkpoint", *ticks[600:1200], "commit", geometry=SMALL)
         data, line = brought_up(history_of(self.disk), disk, lacking, is_free)

@@ -32,6 +32,8 @@ DRIVES_FOUND_BY = [("reads anything", "inputs", 2), ("padding", "inputs", 2), ("
 SHORT_KEPT = [11, 26]
 KEPT_FOUND_BY = [("without the last", 38), ("the last again", 38), ("uncompared", 26), ("with a gap", 6), ("anywhere", 16), ("in zeros alone", 11),
                  ("from 0 on", 26), ("begun anew", 38), ("short", 11)]
+SHORT_DRIVEN = [4, 10]
+DRIVEN_FOUND_BY = [("unkeeping", 2), ("skipping", 2), ("doubling", 13), ("anew", 15), ("unread", 15), ("writing", 10), ("uncomparing", 15), ("begins anywhere", 10)]
 SCHEDULES_FOUND_BY = [("obliging", "schedules", 1), ("unnoted", "schedules", 1), ("before input", "inputs", 2), ("over the old", "schedules", 1),
                       ("first alone", "schedules", 1), ("silent", "schedules", 1)]
 
@@ -116,6 +118,14 @@ class Driver(unittest.TestCase):
             for which, first in KEPT_FOUND_BY:
                 with self.subTest(which=which):
                     self.assertTrue(any(self.difference(which, "beside", seed) for seed in (first, *range(1, 41))))
+
+    def test_histories_of_drives(self):
+        with switched(keys=True, long_runs=True, programs=True, schedules=True):
+            for seed in SHORT_DRIVEN:
+                self.assertIsNone(self.difference("right", "kept", seed))
+            for which, first in DRIVEN_FOUND_BY:
+                with self.subTest(which=which):
+                    self.assertTrue(any(self.difference(which, "kept", seed) for seed in (first, *range(1, 17))))
 
     def test_keys_of_one_side(self):
         """The program has keys and the model none, or the other way round."""

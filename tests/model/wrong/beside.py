@@ -1,4 +1,4 @@
-"""Wrong models of histories beside disks: of what their bytes have recorded, what they lack of a disk, and which files are free."""
+"""Wrong models of histories beside disks: of what their bytes have recorded, what they lack of a disk, which files are free, and what a drive keeps."""
 
 WRONG = {
     "model/beside.py": [
@@ -40,6 +40,15 @@ WRONG = {
         (" or kept.events[begin - kept.first:] != shared", ""),
         ("return recorded.events[kept.last - recorded.first:]", "return recorded.events[kept.last:]"),
         ("return recorded.events[kept.last - recorded.first:]", "return recorded.events"),
+        ("return front.ljust(FRONT, b\"\\0\") + contents[FRONT:size]", "return front.ljust(FRONT, b\"\\0\") + contents[FRONT:]"),
+        ("    if kept is None:\n        if not is_free", "    if True:\n        if not is_free"),
+        ("        if not is_free(there):\n            raise Unkept(\"NotAHistory\")\n", ""),
+        ("return kept.with_more(more), f\"appended", "return kept, f\"appended"),
+        ("return kept.with_more(more), f\"appended", "return recorded, f\"appended"),
+        ("        disk.sync()\n        recorded = ", "        recorded = "),
+        ("        self.kept = self.kept.with_more(events)\n", "        self.kept = self.kept.with_more(events[:-1])\n"),
+        ("        self.kept = self.kept.with_more(events)\n", "        self.kept = self.kept.with_more(events + events)\n"),
+        ("        self.kept = self.kept.with_more(events)\n", "        self.kept = self.kept if self.kept.events else self.kept.with_more(events)\n"),
         ("Teller(deepcopy(kept.machine), kept.first), []", "Teller(deepcopy(kept.machine), 0), []"),
         ("        if teller.machine.refusal_of(event, 0) is not None:\n            break\n", ""),
         ("kept.first + len(self.told)", "len(self.told)"),
@@ -47,6 +56,20 @@ WRONG = {
         ("last <= self.refused", "last < self.refused"),
         ("last <= self.refused", "last <= self.refused + 1"),
         ("self.told[max(0, (first or 0) - self.first):]", "self.told"),
+    ],
+    "model/plans.py": [
+        ("        if keeper is not None:\n            keeper.begin(disk)\n        self.session, self.output, self.options = Session(disk, tally), output, options\n",
+         "        self.session, self.output, self.options = Session(disk, tally), output, options\n        if keeper is not None:\n            keeper.begin(disk)\n"),
+        ("        begin(disk, options, data, said)\n        self.keeper = keeper\n        if keeper is not None:\n            keeper.begin(disk)\n",
+         "        self.keeper = keeper\n        if keeper is not None:\n            keeper.begin(disk)\n        begin(disk, options, data, said)\n"),
+        ("        reply = self.session.commit()\n        if self.keeper is not None and batch and reply.startswith(\"ack\"):\n            self.keeper.append(batch)\n        return reply\n",
+         "        if self.keeper is not None and batch:\n            self.keeper.append(batch)\n        return self.session.commit()\n"),
+        ("            self.keeper.append(batch)\n", "            pass\n"),
+        ("if self.keeper is not None and batch and reply.startswith(\"ack\"):", "if self.keeper is not None and batch:"),
+        ("if self.keeper is not None and batch and reply.startswith(\"ack\"):", "if self.keeper is not None and len(batch) > 5:"),
+        ("            return self.save(self.commit)\n        return self.go_on()", "            return self.save(self.session.commit)\n        return self.go_on()"),
+        ("        return self.save(self.commit) if self.unacknowledged else status", "        return self.save(self.session.commit) if self.unacknowledged else status"),
+        ("bytes(self.session.pending), VERSION_OF_LONG_RUNS)", "bytes(self.session.pending), 1) or []"),
     ],
     "cases/beside.py": [
         ("return shown if shown == DAMAGED else expected", "return expected"),
