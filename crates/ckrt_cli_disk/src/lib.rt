@@ -65,6 +65,7 @@
 mod address;
 mod core_file;
 mod driving;
+mod equipping;
 mod feeding;
 mod fitting;
 mod image;
@@ -75,9 +76,11 @@ mod program;
 mod running;
 mod showing;
 mod sizes;
+mod undertaking;
 
 pub use core_file::core_path;
 pub use driving::drive_path;
+pub use equipping::{Beside, Left, fault_of};
 pub use feeding::Intake;
 pub use laws::printed_bytes_stay;
 pub use making::{fitting_image, make_disk};
