@@ -56,6 +56,11 @@
 //! end. Where the input can't be used both are closed as they were, and no output is asked for. Without an input the steps are
 //! supplied from none.
 //!
+//! Proved of the history of a drive: it is asked for once the schedule is noted, and before the disk is recovered. It gets what it lacks of the
+//! disk as `open_kept` of `ckrt_history` says; the disk is synced for that, and else only read. Where the history can't be had all are closed, and
+//! no output is asked for. The drive is one of its own, step by step, and after each step the history has what the disk has, as `ckrt_history` says.
+//! Where the history fails the drive has made some of its steps, and all are closed as these left them. Without a history none is asked for.
+//!
 //! A law: a byte that was printed at an offset is never another, over any number of runs of a disk
 //! ([`printed_bytes_stay`]).
 //!
