@@ -77,7 +77,7 @@ inspect_rules : AreRules inspect_shape refl inspect_shape.rules
 inspect_rules = ((refl, inl (refl, refl)), ((refl, inr (inr (refl, (_, [], refl)))), ((refl, inl (refl, refl)), ((refl, inr (inr (refl, (_, [], refl)))), ((refl, inl (refl, refl)), ((refl, inr (inl refl)), tt))))))
 
 drive_rules : AreRules drive_shape refl drive_shape.rules
-drive_rules = ((refl, inl (refl, refl)), ((refl, inl (refl, refl)), ((refl, inl (refl, refl)), ((refl, inl (refl, refl)), ((refl, inl (refl, refl)), ((refl, inl (refl, refl)), ((refl, inl (refl, refl)), ((refl, inl (refl, refl)), ((refl, inl (refl, refl)), ((refl, inl (refl, refl)), ((refl, inl (refl, refl)), ((refl, inl (refl, refl)), ((refl, inr (inr (refl, (_, [], refl)))), ((refl, inl (refl, refl)), ((refl, inl (refl, refl)), ((refl, inl (refl, refl)), ((refl, inl (refl, refl)), ((refl, inl (refl, refl)), ((refl, inr (inl refl)), tt)))))))))))))))))))
+drive_rules = ((refl, inl (refl, refl)), ((refl, inl (refl, refl)), ((refl, inl (refl, refl)), ((refl, inl (refl, refl)), ((refl, inl (refl, refl)), ((refl, inl (refl, refl)), ((refl, inl (refl, refl)), ((refl, inl (refl, refl)), ((refl, inl (refl, refl)), ((refl, inl (refl, refl)), ((refl, inl (refl, refl)), ((refl, inl (refl, refl)), ((refl, inl (refl, refl)), ((refl, inr (inr (refl, (_, [], refl)))), ((refl, inl (refl, refl)), ((refl, inl (refl, refl)), ((refl, inl (refl, refl)), ((refl, inl (refl, refl)), ((refl, inl (refl, refl)), ((refl, inr (inl refl)), tt))))))))))))))))))))
 
 core_rules : AreRules core_shape refl core_shape.rules
 core_rules = ((refl, inl (refl, refl)), ((refl, inl (refl, refl)), ((refl, inl (refl, refl)), ((refl, inr (inl refl)), tt))))
@@ -262,16 +262,17 @@ drive_named words pass =
     let given = has_required drive_shape rows false (level_valid drive_shape [] nothing_held words false pass) refl in
     let disk = value_there drive_shape refl (codes "disk") rows _ kept refl (given_found (codes "disk") rows (both (is_given (codes "disk") rows) true given).0) in
     let before = (settled drive_shape.rules end).rows in
-    let turn = number_at drive_shape refl (codes "turn") rows _ kept refl refl (row_found (codes "turn") rows (defaults_give (slots drive_shape 8) (after drive_shape 9) (slot drive_shape 8) before refl)) in
-    let rounds = number_at drive_shape refl (codes "rounds-per-commit") rows _ kept refl refl (row_found (codes "rounds-per-commit") rows (defaults_give (slots drive_shape 9) (after drive_shape 10) (slot drive_shape 9) before refl)) in
+    let turn = number_at drive_shape refl (codes "turn") rows _ kept refl refl (row_found (codes "turn") rows (defaults_give (slots drive_shape 9) (after drive_shape 10) (slot drive_shape 9) before refl)) in
+    let rounds = number_at drive_shape refl (codes "rounds-per-commit") rows _ kept refl refl (row_found (codes "rounds-per-commit") rows (defaults_give (slots drive_shape 10) (after drive_shape 11) (slot drive_shape 10) before refl)) in
     let events = place_in (codes "events") rows in
     let seed = place_in (codes "seed") rows in
     let progress = place_in (codes "progress") rows in
     let input = first_of (codes "input") rows in
     let input_from = place_in (codes "input-from") rows in
     let output = first_of (codes "output") rows in
+    let history = first_of (codes "history") rows in
     let status = first_of (codes "status") rows in
-    (drive (record { disk = disk.0; image = first_of (codes "image") rows; sizes = sizes_in rows; input = input; input_from = input_from; output = output; turn = turn.0; rounds = rounds.0; events = events; seed = seed; other_schedule = flag_in (codes "other-schedule") rows; progress = progress; status = status; from = place_in (codes "from") rows }), rw (disk.1, turn.1, rounds.1) refl)
+    (drive (record { disk = disk.0; image = first_of (codes "image") rows; sizes = sizes_in rows; input = input; input_from = input_from; output = output; history = history; turn = turn.0; rounds = rounds.0; events = events; seed = seed; other_schedule = flag_in (codes "other-schedule") rows; progress = progress; status = status; from = place_in (codes "from") rows }), rw (disk.1, turn.1, rounds.1) refl)
 
 history_named : (words : List Text) → level_passes history_shape [] nothing_held words false ≡ true → (r : Request) × (request_in (rows_at history_shape words) ≡ Some r)
 history_named words pass =

@@ -14,3 +14,7 @@ pub mod CompareLemmas
 pub mod RoomLemmas
 pub mod BringLemmas
 pub mod EitherLemmas
+pub mod KeepLemmas
+pub mod KeepRunLemmas
+pub mod OpeningLemmas
+pub mod KeptLemmas
