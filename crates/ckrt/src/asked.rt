@@ -1,6 +1,7 @@
 //! The names that `--names` asks for, and in which form names are put.
 use crate::beside::{
-    Beside, Trouble, are_of, copy_of, gift_of_disk, is_missing, of_program, read_or_refuse, reported,
+    Beside, Trouble, are_of, copy_of, gift_of_disk, is_missing, of_program, read_or_refuse,
+    reported,
 };
 use ckrt_cli_names::{Form, Names, SIZE_LIMIT};
 use ckrt_cli_words::{Job, ProfileForm};
@@ -70,11 +71,7 @@ fn names_for<R: Files<File = File>>(
 }
 
 /// The names that the history of a drive gets, whose disk is there.
-fn gift_of_history<R: Files<File = File>>(
-    rt: &R,
-    alloc: Global,
-    job: &Job<'_>,
-) -> Option<Vec<u8>> {
+fn gift_of_history<R: Files<File = File>>(rt: &R, alloc: Global, job: &Job<'_>) -> Option<Vec<u8>> {
     match job {
         Job::Drive(job) => match job.history {
             Some(_) => gift_of_disk(rt, alloc, job.disk),

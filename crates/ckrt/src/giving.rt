@@ -217,13 +217,7 @@ impl Giving {
         history: &str,
         job: &DriveJob<'_>,
     ) -> Result<Given, AllocError> {
-        let others = [
-            Some(job.disk),
-            job.image,
-            job.input,
-            job.output,
-            job.status,
-        ];
+        let others = [Some(job.disk), job.image, job.input, job.output, job.status];
         self.give(rt, history, others)
     }
 

@@ -111,8 +111,7 @@ fn with_opened<'a, I: Read, D: Disk, S: Sources<'a, I, D>>(
 {
     let Supplied { disk, intake } = supplied;
     let mut disk = disk;
-    let made = open_kept(alloc, &mut disk, opened.output, opened.length as usize);
-    match made {
+    match open_kept(alloc, &mut disk, opened.output, opened.length as usize) {
         Ok(history) => Ok(Equipped {
             disk,
             beside: Beside {
