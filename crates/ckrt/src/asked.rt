@@ -1,6 +1,7 @@
 //! The names that `--names` asks for, and in which form names are put.
 use crate::beside::{
-    Beside, Trouble, are_of, copy_of, is_missing, of_program, read_or_refuse, reported,
+    Beside, Trouble, are_of, copy_of, gift_of_disk, is_missing, of_program, read_or_refuse,
+    reported,
 };
 use ckrt_cli_names::{Form, Names, SIZE_LIMIT};
 use ckrt_cli_words::{Job, ProfileForm};
@@ -69,6 +70,17 @@ fn names_for<R: Files<File = File>>(
     }
 }
 
+/// The names that the history of a drive gets, whose disk is there.
+fn gift_of_history<R: Files<File = File>>(rt: &R, alloc: Global, job: &Job<'_>) -> Option<Vec<u8>> {
+    match job {
+        Job::Drive(job) => match job.history {
+            Some(_) => gift_of_disk(rt, alloc, job.disk),
+            None => None,
+        },
+        _ => None,
+    }
+}
+
 /// The names of a file that was asked for, in place of those beside what a job reads. Disks that it makes get them. Of a drive they name
 /// the end that is reported.
 pub fn names_asked<'a, R: Files<File = File>>(
@@ -83,7 +95,7 @@ pub fn names_asked<'a, R: Files<File = File>>(
             are_of_image(rt, alloc, &printed, image)?;
             Some(copy_of(alloc, &printed)?)
         }
-        None => None,
+        None => gift_of_history(rt, alloc, job),
     };
     let names = Beside {
         printed,

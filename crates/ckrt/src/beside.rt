@@ -92,7 +92,8 @@ pub struct Beside<'a> {
     pub reported: Names,
     /// Those of a disk that can't be used.
     pub unused: Option<Refusal<'a>>,
-    /// The bytes of those that each disk gets which the job makes, none where its image has no names. It isn't there where it makes none.
+    /// The bytes of those that each disk gets which the job makes, and the history of its disk, none where its image has no names. It isn't
+    /// there where none gets any.
     pub gift: Option<Vec<u8>>,
 }
 
@@ -337,24 +338,48 @@ pub fn reported(alloc: Global, beside: Beside<'_>) -> Beside<'_> {
     }
 }
 
-/// The names that a history gets of its disk, where that has some. Nothing is printed by them.
+/// The names that a history gets of its disk, where that has some.
+pub fn gift_of_disk<R: Files<File = File>>(rt: &R, alloc: Global, disk: &str) -> Option<Vec<u8>> {
+    match names_of_disk(rt, alloc, disk) {
+        Ok(Some(names)) => copy_of(alloc, &names).ok(),
+        _ => None,
+    }
+}
+
+/// The names for a job that keeps a history of a disk. Nothing is printed by them.
 fn of_history<'a, R: Files<File = File>>(
     rt: &R,
     alloc: Global,
     job: &HistoryJob<'a>,
 ) -> Beside<'a> {
-    let names = match job.disk {
-        Some(disk) => names_of_disk(rt, alloc, disk),
-        None => Ok(None),
-    };
-    let gift = match names {
-        Ok(Some(names)) => copy_of(alloc, &names).ok(),
-        _ => None,
+    let gift = match job.disk {
+        Some(disk) => gift_of_disk(rt, alloc, disk),
+        None => None,
     };
     Beside {
         printed: Names::none(alloc),
         reported: Names::none(alloc),
         unused: None,
+        gift,
+    }
+}
+
+/// The names of a disk, which the history of its drive gets too, where it keeps one.
+fn of_driven<'a, R: Files<File = File>>(rt: &R, alloc: Global, job: &DriveJob<'a>) -> Beside<'a> {
+    let Beside {
+        printed,
+        reported,
+        unused,
+        ..
+    } = of_disk(rt, alloc, job.disk);
+    let gift = match job.history {
+        Some(_) => gift_of_disk(rt, alloc, job.disk),
+        None => None,
+    };
+    Beside {
+        printed,
+        reported,
+        unused,
         gift,
     }
 }
@@ -367,7 +392,7 @@ fn of_drive<'a, R: Files<File = File>>(
 ) -> Result<Beside<'a>, Refusal<'a>> {
     let beside = match job.image {
         Some(image) if is_missing(rt, job.disk) => of_image(rt, alloc, image)?,
-        _ => of_disk(rt, alloc, job.disk),
+        _ => of_driven(rt, alloc, job),
     };
     Ok(reported(alloc, beside))
 }

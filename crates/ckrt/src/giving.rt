@@ -20,7 +20,7 @@ struct Place<'a, 'b> {
     disk: &'b str,
     names: &'b str,
     bytes: &'b [u8],
-    others: [Option<&'a str>; 4],
+    others: [Option<&'a str>; 5],
 }
 
 /// What became of them.
@@ -124,7 +124,10 @@ pub struct Giving {
     bytes: Vec<u8>,
     /// Which disks of a hunt were there before, by their numbers from 1 on, or the one.
     there: Vec<bool>,
+    /// Whether the names of a drive's disk were made.
     is_made: bool,
+    /// What became of those of its history, where that was missing.
+    beside: Option<Given>,
 }
 
 /// Says that a disk has no names, since another file has their path.
@@ -163,7 +166,8 @@ fn those_there(rt: &HostRuntime, alloc: Global, keep: &str) -> Result<Vec<bool>,
 }
 
 impl Giving {
-    /// Before a job is done: a drive gives a missing disk its names, so that one which is killed has them too.
+    /// Before a job is done: a drive gives a missing disk its names, and a missing history, so that ones which it makes have them too where it
+    /// is killed.
     pub fn begin(
         rt: &HostRuntime,
         alloc: Global,
@@ -184,12 +188,37 @@ impl Giving {
             bytes,
             there,
             is_made: false,
+            beside: None,
         };
         if let Job::Drive(job) = job {
-            let others = [job.image, job.input, job.output, job.status];
-            giving.is_made = giving.give(rt, job.disk, others)? == Given::Made;
+            giving.begin_drive(rt, job)?;
         }
         Ok(giving)
+    }
+
+    /// The same for a drive.
+    fn begin_drive(&mut self, rt: &HostRuntime, job: &DriveJob<'_>) -> Result<(), AllocError> {
+        if is_missing(rt, job.disk) {
+            let others = [job.image, job.input, job.output, job.status, job.history];
+            self.is_made = self.give(rt, job.disk, others)? == Given::Made;
+        }
+        if let Some(history) = job.history {
+            if is_missing(rt, history) {
+                self.beside = Some(self.give_beside(rt, history, job)?);
+            }
+        }
+        Ok(())
+    }
+
+    /// Gives the history of a drive its names.
+    fn give_beside(
+        &self,
+        rt: &HostRuntime,
+        history: &str,
+        job: &DriveJob<'_>,
+    ) -> Result<Given, AllocError> {
+        let others = [Some(job.disk), job.image, job.input, job.output, job.status];
+        self.give(rt, history, others)
     }
 
     /// Gives a disk its names.
@@ -197,7 +226,7 @@ impl Giving {
         &self,
         rt: &HostRuntime,
         disk: &str,
-        others: [Option<&str>; 4],
+        others: [Option<&str>; 5],
     ) -> Result<Given, AllocError> {
         let names = names_path(self.alloc, disk)?;
         let place = Place {
@@ -219,36 +248,57 @@ impl Giving {
         for (before, was_there) in self.there.iter().enumerate() {
             let disk = outcome_path(self.alloc, keep, before.saturating_add(1))?;
             if !was_there && !is_missing(rt, disk.as_str()) {
-                let others = [Some(job.image), job.input, job.table, None];
+                let others = [Some(job.image), job.input, job.table, None, None];
                 self.give(rt, disk.as_str(), others)?;
             }
         }
         Ok(())
     }
 
-    /// Takes the names of a drive away again, where it has made no disk.
-    fn take_back(&self, rt: &HostRuntime, job: &DriveJob<'_>) -> Result<(), AllocError> {
-        if self.is_made && is_missing(rt, job.disk) {
-            let names = names_path(self.alloc, job.disk)?;
+    /// Takes names that were made away again, where there is no disk or no history for them.
+    fn take_back(&self, rt: &HostRuntime, is_made: bool, path: &str) -> Result<(), AllocError> {
+        if is_made && is_missing(rt, path) {
+            let names = names_path(self.alloc, path)?;
             let _ = rt.remove_file(names.as_str());
         }
         Ok(())
+    }
+
+    /// After a drive with a status: its history has the names of its disk, where it was driven.
+    fn end_drive(
+        &self,
+        rt: &HostRuntime,
+        job: &DriveJob<'_>,
+        status: u8,
+    ) -> Result<(), AllocError> {
+        self.take_back(rt, self.is_made, job.disk)?;
+        let Some(history) = job.history else {
+            return Ok(());
+        };
+        match self.beside {
+            Some(given) => self.take_back(rt, given == Given::Made, history),
+            None if status == 1 => Ok(()),
+            None => {
+                self.give_beside(rt, history, job)?;
+                Ok(())
+            }
+        }
     }
 
     /// After a job is done with a status: gives what it has made the names of its image.
     pub fn end(&self, rt: &HostRuntime, job: &Job<'_>, status: u8) -> Result<(), AllocError> {
         match job {
             Job::Format(job) if status == 0 => {
-                self.give(rt, job.disk, [Some(job.image), None, None, None])?;
+                self.give(rt, job.disk, [Some(job.image), None, None, None, None])?;
                 Ok(())
             }
             Job::Hunt(job) => match job.keep {
                 Some(keep) => self.give_kept(rt, keep, job),
                 None => Ok(()),
             },
-            Job::Drive(job) => self.take_back(rt, job),
+            Job::Drive(job) => self.end_drive(rt, job, status),
             Job::History(job) if status == 0 => {
-                self.give(rt, job.file, [job.disk, None, None, None])?;
+                self.give(rt, job.file, [job.disk, None, None, None, None])?;
                 Ok(())
             }
             _ => Ok(()),

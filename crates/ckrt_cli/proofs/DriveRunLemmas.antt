@@ -1,5 +1,5 @@
 -- Runs of the program.
-use Rattle.std.proofs.Common.{◌≡◌, inl, inr, ℕ, ◌-◌, ◌^◌, Bool, true, false, List, length, if◌then◌else◌, Option, Some, None, Result, Ok, Err, refl, sym, ◌∙◌, ap, subst}
+use Rattle.std.proofs.Common.{◌≡◌, inl, inr, ℕ, Bool, true, false, List, length, if◌then◌else◌, Option, Some, None, Result, Ok, Err, refl, sym, ◌∙◌, ap, subst}
 use Rattle.std.specs.Prelude.{IfOk, IfSome, nat_le}
 use Rattle.ckrt_disk.specs.declared.disk.Disk.{Ghosts}
 use Rattle.ckrt_drive.specs.Runs.{IsAtEnd, IsWhyNoMore, Stand, stand_of}
@@ -8,7 +8,8 @@ use Rattle.ckrt_drive.specs.declared.fault.DriveFault.{DriveFault}
 use Rattle.ckrt_drive.specs.declared.options.Options.{Options}
 use Rattle.ckrt_schedule.specs.declared.next.ScheduleEnd.{ScheduleEnd}
 use Rattle.ckrt_stored.specs.declared.fault.RecoverFault.{RecoverFault}
-use Rattle.ckrt_cli_disk.specs.Driving.{way_of}
+use Rattle.ckrt_history.specs.declared.kept.KeptHistory.{KeptHistory}
+use Rattle.ckrt_cli_disk.specs.Driving.{unfed, with_intake}
 use Rattle.ckrt_recovery.specs.Recovered.{IsRecovered}
 use Rattle.ckrt_cli_disk.specs.Feeding.{EndsWithRoom, LooksUp, MakesRoom, SuppliesFrom, SuppliesOpened, SuppliesRoomy, SuppliesTaken, taken_by_words}
 use Rattle.ckrt_cli_files.specs.Openings.{Openings, with_lengthened}
@@ -21,12 +22,13 @@ use Rattle.ckrt_cli_disk.specs.declared.feeding.Unready.{Unready}
 use Rattle.ckrt_drive.specs.Offset.{Tells, offset_from}
 use Rattle.ckrt_drive.specs.declared.offset_fault.OffsetFault.{OffsetFault}
 use Rattle.ckrt_drive.specs.declared.offset_fault.OffsetFault.TheVariants.{Unrecovered, NotRecorded}
-use Rattle.ckrt_cli.specs.Runs.{IsRun, ProgramRun, TellsAsBefore, TellsIfLonger, drive_of, way_of_run}
+use Rattle.ckrt_cli.specs.Runs.{IsJoined, IsRun, ProgramRun, TellsAsBefore, TellsIfLonger, drive_of, way_of_run}
 use Rattle.ckrt_drive_theorem.specs.Drives.{IsToldByRecord}
 use Rattle.ckrt_cli_disk.specs.Noting.{Notes}
 use Rattle.ckrt_stored.specs.declared.schedule.ScheduleNote.{ScheduleNote}
 use Rattle.ckrt_drive_theorem.proofs.DriveLemmas.{disk_honest}
 use Rattle.ckrt_drive_theorem.proofs.LengtheningLemmas.{no_fields, tells_same}
+use Rattle.ckrt_cli.proofs.JoinedLemmas.{honest_before, reads_as_before}
 
 -- IT IS A DRIVE
 
@@ -43,7 +45,7 @@ module _ {D O : Type 0} (d : Ghosts D) (o : Ghosts O) (r : ProgramRun d o) where
       let why = run.runs.goes.why in
       record {
         is = λ at. record { recovered = recovered; goes = run.by_steps.goes; supplied = run.by_steps.supplied read; honest = honest; output_honest = whole };
-        ends = λ ending is. ends_saved (way_of_run r).options (2 ^ 64 - 1) (length run.runs.goes.did) run.runs.goes.last (stand_of run.left r.after) run.ran ending why is;
+        ends = λ ending is. ends_saved (way_of_run r).options run.steps (length run.runs.goes.did) run.runs.goes.last (stand_of run.left r.after) run.ran ending why is;
         over = λ ending is. over_at run.ran (IsOver (way_of_run r).options (way_of_run r).file (stage o run.left run.taken r.after r.end)) ending (run.over read) is;
       }
 
@@ -109,17 +111,20 @@ module _ {D : Type 0} (d : Ghosts D) (gives : Gives D) (from : Option ℕ) where
 
   -- A RUN
 
-  told_way : (options : Options) (start : D) (intake : Option (Intake D)) (input : Option D) (it : Intake D) → intake ≡ Some it → offset_from from (d.content start) ≡ Ok (Some it.taken)
-      → IfSome (way_of d options intake input).file (λ bytes. (said : Option ℕ) × (offset_from said (d.content start) ≡ Ok (Some (way_of d options intake input).taken)))
-  told_way options start None input it is tells = tt
-  told_way options start (Some x) None it is tells = tt
-  told_way options start (Some x) (Some end) it is tells = let same : it ≡ x = cc in (from, tells ∙ ap (λ (q : Intake D). Ok (Some q.taken)) same)
+  told_way : (options : Options) (history : Option (KeptHistory D d)) (kept : Option D) (start : D) (intake : Option (Intake D)) (input : Option D) (it : Intake D) → intake ≡ Some it → offset_from from (d.content start) ≡ Ok (Some it.taken)
+      → IfSome (with_intake d (unfed options history kept) intake input).file (λ bytes. (said : Option ℕ) × (offset_from said (d.content start) ≡ Ok (Some (with_intake d (unfed options history kept) intake input).taken)))
+  told_way options history kept start None input it is tells = tt
+  told_way options history kept start (Some x) None it is tells = tt
+  told_way options history kept start (Some x) (Some end) it is tells = let same : it ≡ x = cc in (from, tells ∙ ap (λ (q : Intake D). Ok (Some q.taken)) same)
 
-  pub told_by_record : {O : Type 0} (o : Ghosts O) (r : ProgramRun d o) (found supplied : D) (path : List ℕ) (old new : Openings D) (schedule : ScheduleNote) → TellsIfLonger d old new supplied → SuppliesFrom d gives path from found old new (Ok (record { disk = supplied; intake = r.intake }))
-      → Notes d schedule supplied r.start (Ok tt) → IsRecovered d r.start r.before → d.is_honest r.after.disk → (at : Stage d o) → IsToldByRecord (drive_of r at)
-  told_by_record o r found supplied path old new schedule law supplies notes recovered honest at =
+  pub told_by_record : {O : Type 0} (o : Ghosts O) (r : ProgramRun d o) (found supplied noted : D) (path : List ℕ) (old new : Openings D) (schedule : ScheduleNote) → TellsIfLonger d old new supplied
+      → SuppliesFrom d gives path from found old new (Ok (record { disk = supplied; intake = r.beside.intake }))
+      → Notes d schedule supplied noted (Ok tt) → IsJoined d noted r.start → IsRecovered d r.start r.before → d.is_honest r.after.disk → (at : Stage d o) → IsToldByRecord (drive_of r at)
+  told_by_record o r found supplied noted path old new schedule law supplies notes joined recovered honest at =
       let v = drive_of r at in
       let fine = recovered.disk.same.honest (disk_honest d o v.options v.stages v.first v.last r.drives.by_steps.goes honest) in
-      let it = with_taken (record { disk = supplied; intake = r.intake }) path found supplies.disk old new supplies.taken supplies.looks supplies.ends law (notes.within.same.honest fine) in
-      told_way r.options r.start r.intake r.input it.it it.is
-      (tells_same (d.content supplied) (d.content r.start) (no_fields (d.content supplied) (d.content r.start) (notes.within.content refl fine)) from ∙ it.tells)
+      let fine_noted = honest_before d noted r.start joined fine in
+      let it = with_taken (record { disk = supplied; intake = r.beside.intake }) path found supplies.disk old new supplies.taken supplies.looks supplies.ends law (notes.within.same.honest fine_noted) in
+      told_way r.options r.beside.history r.left.history r.start r.beside.intake r.left.input it.it it.is
+      (ap (offset_from from) (reads_as_before d noted r.start joined fine)
+      ∙ (tells_same (d.content supplied) (d.content noted) (no_fields (d.content supplied) (d.content noted) (notes.within.content refl fine_noted)) from ∙ it.tells))

@@ -12,8 +12,9 @@ use Rattle.ckrt_drive.specs.Offset.{offset_from}
 use Rattle.ckrt_schedule.specs.declared.schedule.Schedule.{Schedule}
 use Rattle.ckrt_stored.specs.Programs.{output_after, start_of}
 use Rattle.ckrt_cli_words.specs.Jobs.{Driving}
-use Rattle.ckrt_cli_disk.specs.Driving.{way_of}
-use Rattle.ckrt_cli_disk.specs.Feeding.{Supplies}
+use Rattle.ckrt_history.specs.declared.kept.KeptHistory.{KeptHistory}
+use Rattle.ckrt_cli_disk.specs.Driving.{Way, unfed, with_intake}
+use Rattle.ckrt_cli_disk.specs.Feeding.{Supplies, SuppliesFrom}
 use Rattle.ckrt_cli_disk.specs.declared.feeding.Intake.{Intake}
 use Rattle.ckrt_cli_disk.specs.declared.feeding.Supplied.{Supplied}
 use Rattle.ckrt_cli_reports.specs.declared.fault.JobFault.{JobFault}
@@ -29,23 +30,24 @@ use Rattle.ckrt_drive_theorem.proofs.DriveLemmas.{disk_honest, drive_keeps}
 use Rattle.ckrt_drive_theorem.proofs.FedLemmas.{drive_given, gives, is_told}
 use Rattle.ckrt_drive_theorem.proofs.LengtheningLemmas.{tells_longer, zeros_only}
 use Rattle.ckrt_cli.proofs.DriveRunLemmas.{is_run, told_by_record}
+use Rattle.ckrt_cli.proofs.JoinedLemmas.{Joins, honest_before, joins}
 use Rattle.ckrt_cli.specs.Promise.{Common, Drove, HasSchedule, Holds, IsAsBefore, IsKept, as_drive}
 use Rattle.ckrt_cli.proofs.LongLemmas.{long_as_all}
-use Rattle.ckrt_cli.proofs.SupplyLemmas.{Reaches, Stands, by_input, by_notes, by_reads, by_zeros}
+use Rattle.ckrt_cli.proofs.SupplyLemmas.{Reaches, Stands, by_input, by_joined, by_notes, by_reads, by_zeros}
 
 -- WHAT IT WAS TOLD
 
-unfed_told : {D : Type 0} (d : Ghosts D) (options : Options) (start : D) (intake : Option (Intake D)) (input : Option D) → intake ≡ None
-    → IfSome (way_of d options intake input).file (λ bytes. (said : Option ℕ) × (offset_from said (d.content start) ≡ Ok (Some (way_of d options intake input).taken)))
-unfed_told {D = D} d options start intake input none =
-    subst (λ (i : Option (Intake D)). IfSome (way_of d options i input).file (λ bytes. (said : Option ℕ) × (offset_from said (d.content start) ≡ Ok (Some (way_of d options i input).taken)))) (sym none) tt
+unfed_told : {D : Type 0} (d : Ghosts D) (options : Options) (history : Option (KeptHistory D d)) (kept : Option D) (start : D) (intake : Option (Intake D)) (input : Option D) → intake ≡ None
+    → IfSome (with_intake d (unfed options history kept) intake input).file (λ bytes. (said : Option ℕ) × (offset_from said (d.content start) ≡ Ok (Some (with_intake d (unfed options history kept) intake input).taken)))
+unfed_told {D = D} d options history kept start intake input none =
+    subst (λ (i : Option (Intake D)). IfSome (with_intake d (unfed options history kept) i input).file (λ bytes. (said : Option ℕ) × (offset_from said (d.content start) ≡ Ok (Some (with_intake d (unfed options history kept) i input).taken)))) (sym none) tt
 
 -- HOW IT WENT
 
-way_options : {D : Type 0} (d : Ghosts D) (options : Options) (intake : Option (Intake D)) (input : Option D) → (way_of d options intake input).options ≡ options
-way_options d options None input = refl
-way_options d options (Some it) None = refl
-way_options d options (Some it) (Some end) = refl
+way_options : {D : Type 0} (d : Ghosts D) (way : Way d) (intake : Option (Intake D)) (input : Option D) → (with_intake d way intake input).options ≡ way.options
+way_options d way None input = refl
+way_options d way (Some it) None = refl
+way_options d way (Some it) (Some end) = refl
 
 same_schedule : (o : Options) (u : Schedule) → o.turn ≡ u.turn → o.seed ≡ u.seed → schedule_of o ≡ u
 same_schedule o u turn seed = ap (λ n. record { turn = n; seed = o.seed }) turn ∙ ap (λ s. record { turn = u.turn; seed = s }) seed
@@ -89,17 +91,25 @@ module _ {D : Type 0} (d : Ghosts D) (law : (disk : D) (image : List ℕ) → d.
     found : Stands d h c.file x.came.run.output x.came.found
     found = subst (λ o. Stands d h c.file o x.came.found) (sym kept.found_output) (subst (Stands d h c.file output) (sym kept.found_disk) before.stands)
 
+    -- its history was given what it lacked of the disk
+    had : Joins d sources (record { disk = x.came.noted; intake = x.came.intake }) (record { disk = x.came.run.start; beside = x.came.run.beside })
+    had = joins d sources (record { disk = x.came.noted; intake = x.came.intake }) (record { disk = x.came.run.start; beside = x.came.run.beside }) j.history x.came.asked x.came.joined x.came.equips
+
+    fine_noted : d.is_honest x.came.noted
+    fine_noted = honest_before d x.came.noted x.came.run.start had.joined fine
+
     -- the disk as it is supplied, and the one that was made longer for it
     fine_supplied : d.is_honest x.came.supplied
-    fine_supplied = x.came.notes.within.same.honest fine
+    fine_supplied = x.came.notes.within.same.honest fine_noted
 
     reaches : Reaches d h c.file x.came.run.output x.came.before x.came.asked x.came.supplied
-    reaches = by_input d h c.file x.came.run.output sources (record { disk = x.came.supplied; intake = x.came.run.intake }) j.input j.input_from x.came.looked x.came.before x.came.asked x.came.supplies kept.longer fine_supplied
+    reaches = by_input d h c.file x.came.run.output sources (record { disk = x.came.supplied; intake = x.came.intake }) j.input j.input_from x.came.looked x.came.before x.came.asked x.came.supplies kept.longer fine_supplied
         (λ whole. by_reads d h c.file x.came.run.output x.came.found x.came.looked _ x.came.sized whole found)
 
     -- and as it is recovered, with its schedule
     stands_there : Stands d h c.file x.came.run.output x.came.run.start
-    stands_there = by_notes d h c.file x.came.run.output _ x.came.supplied x.came.run.start x.came.notes fine reaches.stands
+    stands_there = by_joined d h c.file x.came.run.output x.came.noted x.came.run.start had.joined fine
+        (by_notes d h c.file x.came.run.output _ x.came.supplied x.came.noted x.came.notes fine_noted reaches.stands)
 
     -- so it tells as before where it was made longer, with an input
     tells : (bytes : List ℕ) → c.file ≡ Some bytes → TellsIfLonger d x.came.before x.came.asked x.came.supplied
@@ -110,14 +120,17 @@ module _ {D : Type 0} (d : Ghosts D) (law : (disk : D) (image : List ℕ) → d.
           told = λ said. tells_longer d reads h bytes looked x.came.supplied zeros.honest (subst (λ f. StandsFed d f h looked) some (reaches.longer looked more).fed) (zeros_only (d.content looked) (d.content x.came.supplied) zeros.reads) said;
         }
 
-    told_by : (input : Option (List ℕ)) → Supplies d sources input j.input_from x.came.looked x.came.before x.came.asked (Ok (record { disk = x.came.supplied; intake = x.came.run.intake })) → (f : Option (List ℕ)) → c.file ≡ f → IsToldByRecord v
+    told_by : (input : Option (List ℕ)) → Supplies d sources input j.input_from x.came.looked x.came.before x.came.asked (Ok (record { disk = x.came.supplied; intake = x.came.intake })) → (f : Option (List ℕ)) → c.file ≡ f → IsToldByRecord v
     told_by None supplies f some =
-        let same : ◌≡◌ {A = Result (Supplied D) JobFault} (Ok (record { disk = x.came.supplied; intake = x.came.run.intake })) (Ok (record { disk = x.came.looked; intake = None })) = supplies.0 in
-        let whole : ◌≡◌ {A = Supplied D} (record { disk = x.came.supplied; intake = x.came.run.intake }) (record { disk = x.came.looked; intake = None }) = cc in
-        unfed_told d x.came.run.options x.came.run.start x.came.run.intake x.came.run.input (ap (λ (q : Supplied D). q.intake) whole)
+        let same : ◌≡◌ {A = Result (Supplied D) JobFault} (Ok (record { disk = x.came.supplied; intake = x.came.intake })) (Ok (record { disk = x.came.looked; intake = None })) = supplies.0 in
+        let whole : ◌≡◌ {A = Supplied D} (record { disk = x.came.supplied; intake = x.came.intake }) (record { disk = x.came.looked; intake = None }) = cc in
+        let r = x.came.run in
+        unfed_told d r.options r.beside.history r.left.history r.start r.beside.intake r.left.input (had.same_intake ∙ ap (λ (q : Supplied D). q.intake) whole)
     told_by (Some name) supplies None none =
         subst (λ (f : Option (List ℕ)). IfSome f (λ bytes. (said : Option ℕ) × (offset_from said (d.content x.came.run.start) ≡ Ok (Some (way_of_run x.came.run).taken)))) (sym (kept.same_input ∙ none)) tt
-    told_by (Some name) supplies (Some bytes) some = told_by_record d sources j.input_from d x.came.run x.came.looked x.came.supplied name x.came.before x.came.asked _ (tells bytes some) supplies x.came.notes x.came.recovered kept.disk_honest x.at
+    told_by (Some name) supplies (Some bytes) some =
+        let given = subst (λ (i : Option (Intake D)). SuppliesFrom d sources name j.input_from x.came.looked x.came.before x.came.asked (Ok (record { disk = x.came.supplied; intake = i }))) (sym had.same_intake) supplies in
+        told_by_record d sources j.input_from d x.came.run x.came.looked x.came.supplied x.came.noted name x.came.before x.came.asked _ (tells bytes some) given x.came.notes had.joined x.came.recovered kept.disk_honest x.at
 
     by_record : IsToldByRecord v
     by_record = told_by j.input x.came.supplies c.file refl
@@ -152,7 +165,7 @@ module _ {D : Type 0} (d : Ghosts D) (law : (disk : D) (image : List ℕ) → d.
     on_course : (u : Schedule) → HasSchedule u j → course_of v ≡ course u c.file
     on_course u has =
         let o = x.came.run.options in
-        let same = way_options d o x.came.run.intake x.came.run.input in
+        let same = way_options d (unfed o x.came.run.beside.history x.came.run.left.history) x.came.run.beside.intake x.came.run.left.input in
         let asked = same_schedule o u (x.came.asks.turn ∙ has.turn) (x.came.asks.seed ∙ has.seed) in
         ap (λ (q : Options). course (schedule_of q) v.file) same ∙ (ap (λ s. course s v.file) asked ∙ ap (course u) kept.same_input)
 

@@ -12,7 +12,7 @@ use Rattle.ckrt_recovery.specs.declared.session.Session.{Session}
 use Rattle.ckrt_disk.proofs.ListLemmas.{taken_begins}
 use Rattle.ckrt_recovery.proofs.AcceptLemmas.{output_begins}
 use Rattle.ckrt_drive.specs.Runs.{IsAllSaved}
-use Rattle.ckrt_drive.specs.declared.fault.DriveFault.{DriveFault}
+use Rattle.ckrt_history.specs.declared.keeping_fault.KeepingFault.{KeepingFault}
 use Rattle.ckrt_cli_disk.specs.Driving.{DrivesWay, Way}
 use Rattle.ckrt_cli_reports.specs.Lengths.{fits, lengths_of}
 use Rattle.ckrt_cli_reports.specs.declared.driven.Driven.{Driven}
@@ -28,7 +28,7 @@ grown size at (piece ∷ more) low =
     let whole : length (piece ++ concat more) ≡ length piece + length (concat more) = length-append piece (concat more) in
     rest ∙ grind (arith, nat_tests, whole)
 
-module _ {D O : Type 0} (g : Ghosts D) (o : Ghosts O) (way : Way) (s t : Session D g) (a b : O) (answer : Result Driven DriveFault) where
+module _ {D O : Type 0} (g : Ghosts D) (o : Ghosts O) (way : Way g) (s t : Session D g) (a b : O) (answer : Result Driven KeepingFault) where
   pub long_as_output : (run : DrivesWay o way s t a b answer) → g.is_honest t.disk → (p : Program) (events : List Event) → Represents p events s → (size : ℕ) → fits (lengths_of size s) ≡ true
       → IsAllSaved (view_of t) → size_after size s.progress.confirmed run.runs.puts.pieces ≡ length (output_after p (events ++ run.runs.accepted))
   long_as_output run honest p events reps size fit saved =

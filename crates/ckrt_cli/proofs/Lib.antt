@@ -9,5 +9,6 @@ pub mod SoundLemmas
 pub mod ServedLemmas
 mod AppendLemmas
 mod InputLemmas
+pub mod JoinedLemmas
 mod KeepLemmas
 mod OpenedLemmas

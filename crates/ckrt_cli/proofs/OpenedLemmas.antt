@@ -10,7 +10,7 @@ use Rattle.ckrt_cli_reports.specs.declared.fault.JobFault.{JobFault}
 use Rattle.ckrt_cli.specs.Debugging.{ReadsAt}
 use Rattle.ckrt_cli.specs.Histories.{JoinsOpened, JoinsWith, LacksHistory, MeasuresOpened}
 use Rattle.ckrt_cli.specs.Looking.{LooksAt, sight}
-use Rattle.ckrt_cli_files.specs.Openings.{opened, with_output}
+use Rattle.ckrt_cli_files.specs.Openings.{opened, with_history}
 use Rattle.ckrt_cli_files.specs.declared.output.OpenedOutput.{OpenedOutput}
 use Rattle.ckrt_history.specs.declared.joined.Joined.{Joined}
 use Rattle.ckrt_history.specs.declared.span.Span.{Span}
@@ -124,7 +124,7 @@ module _ {D : Type 0} (d : Ghosts D) (P : D → Type 0) (it : D) (path : List �
 
   by_kind : (asked new : Openings D) (result : Result (Option Joined × Span) JobFault) → JoinsWith d (λ x. x ≡ it) (record { path = path; Outputs = O₁ }) asked new result → JoinsWith d P (record { path = path; Outputs = O }) asked new result
   by_kind asked new result (inl o) = inl (lacks asked new result o)
-  by_kind asked new result (inr o) = inr (joins (with_output asked (opened path)) new result o)
+  by_kind asked new result (inr o) = inr (joins (with_history asked (opened path)) new result o)
 
   pub with_there : (asked₁ asked new : Openings D) (result : Result (Option Joined × Span) JobFault) → asked₁ ≡ asked → JoinsWith d (λ x. x ≡ it) (record { path = path; Outputs = O₁ }) asked₁ new result → JoinsWith d P (record { path = path; Outputs = O }) asked new result
   with_there asked₁ asked new result same o =

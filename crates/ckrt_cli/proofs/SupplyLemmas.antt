@@ -1,5 +1,5 @@
 -- What stands with an output before a drive: the disk that was found, was read, and got room for its record.
-use Rattle.std.proofs.Common.{◌≡◌, inl, inr, ℕ, Bool, List, ◌∷◌, length, Option, Some, None, Result, Ok, Err, sym, ◌∙◌, ap, subst, arith}
+use Rattle.std.proofs.Common.{◌≡◌, inl, inr, ℕ, Bool, List, ◌∷◌, length, Option, Some, None, Result, Ok, Err, refl, sym, ◌∙◌, ap, subst, arith}
 use Rattle.std.specs.Prelude.{slice_index}
 use Rattle.ckrt_disk.specs.Frame.{IsOnlyRead, MayBeLeft}
 use Rattle.ckrt_disk.specs.declared.disk.Disk.{Ghosts}
@@ -19,6 +19,7 @@ use Rattle.ckrt_drive_theorem.specs.Lengthening.{IsLengthened}
 use Rattle.ckrt_drive_theorem.specs.Together.{Past, StandTogether, StandsFed}
 use Rattle.ckrt_drive_theorem.proofs.LengtheningLemmas.{AreReadied, fed_stands_readied, keeps_longer, noted_only, stands_readied}
 use Rattle.ckrt_cli.specs.Promise.{HasZerosBehind}
+use Rattle.ckrt_cli.specs.Runs.{IsJoined}
 
 no_more : {D : Type 0} (x : D) (xs ys : List D) → ys ≡ xs → ys ≡ x ∷ xs → ⊥
 no_more x xs ys same more = omega (arith, ap length (sym same ∙ more))
@@ -60,6 +61,16 @@ module _ {D : Type 0} (d : Ghosts D) (h : Past) (file : Option (List ℕ)) (out 
       }) in
       (was.was, was.might, noted_only was.was image was.same) in
       record { together = stands_readied d d h a b out are stands.together; fed = fed_stands_readied d d h file a b are stands.fed }
+
+  -- and one whose history was given what it lacked of it
+  pub by_joined : (a b : D) → IsJoined d a b → d.is_honest b → Stands a → Stands b
+  by_joined a b (inl same) honest stands = subst Stands (sym same) stands
+  by_joined a b (inr read) honest stands =
+      let settled = read.settled refl honest in
+      by_fewer a b (λ image may. record {
+        size = may.size ∙ ap length settled.content;
+        same = λ i out. may.same i (settled.durable i) ∙ ap (λ (l : List ℕ). slice_index l i) settled.content;
+      }) stands
 
   -- WITH ITS INPUT
 

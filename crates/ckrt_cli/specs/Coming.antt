@@ -6,10 +6,13 @@ use Rattle.ckrt_disk.specs.declared.disk.DeviceFault.{DeviceFault}
 use Rattle.ckrt_disk.specs.declared.disk.Disk.{Ghosts}
 use Rattle.ckrt_drive.specs.declared.options.Options.{Options}
 use Rattle.ckrt_cli_words.specs.Jobs.{Driving}
-use Rattle.ckrt_cli_disk.specs.Driving.{DrivesBehindNote, DrivesFound, DrivesInRange, DrivesInto, DrivesLooked, DrivesOpened, DrivesOpenedOutput, DrivesPath, DrivesSupplied, DrivesToward, IsAsked, Means, Setting, ready, setting_of}
+use Rattle.ckrt_cli_disk.specs.Driving.{DrivesBehindNote, DrivesEquipped, DrivesFound, DrivesInRange, DrivesInto, DrivesLooked, DrivesOpened, DrivesOpenedOutput, DrivesPath, DrivesSupplied, DrivesToward, IsAsked, Means, Setting, ready, setting_of}
 use Rattle.ckrt_recovery.specs.Recovered.{IsRecovered}
+use Rattle.ckrt_cli_disk.specs.Equipping.{Equips}
 use Rattle.ckrt_cli_disk.specs.Feeding.{Supplies}
 use Rattle.ckrt_cli_disk.specs.Noting.{Notes, asked_schedule}
+use Rattle.ckrt_cli_disk.specs.declared.equipping.Equipped.{Equipped}
+use Rattle.ckrt_cli_disk.specs.declared.feeding.Intake.{Intake}
 use Rattle.ckrt_cli_disk.specs.declared.feeding.Supplied.{Supplied}
 use Rattle.ckrt_cli_files.specs.Openings.{Openings, opened, with_output}
 use Rattle.ckrt_cli_files.specs.Sources.{Gives}
@@ -34,10 +37,16 @@ pub record Came {D : Type 0} (d : Ghosts D) (gives : Gives D) (j : Driving) (pat
   pub before : Openings D
   pub asked : Openings D
   pub supplied : D
+  pub intake : Option (Intake D)
   pub supplies : Supplies d gives j.input j.input_from looked before asked
-      (Ok (record { disk = supplied; intake = run.intake }))
+      (Ok (record { disk = supplied; intake = intake }))
   -- once the schedule of the words was noted on it
-  pub notes : Notes d (asked_schedule j) supplied run.start (Ok tt)
+  pub noted : D
+  pub notes : Notes d (asked_schedule j) supplied noted (Ok tt)
+  -- and its history, where the words name one, was given what that lacked of it
+  pub joined : Openings D
+  pub equips : Equips d gives j.history (record { disk = noted; intake = intake }) asked joined
+      (Ok (record { disk = run.start; beside = run.beside }))
   -- it began with what that disk recovers to
   pub recovered : IsRecovered d run.start run.before
   -- and with this output, whose length fits it
@@ -72,6 +81,13 @@ abbrev pub noted : {D : Type 0} {d : Ghosts D} {gives : Gives D} {j : Driving} �
     → Supplied D
 noted fed = record { disk = fed.disk; intake = fed.it.intake }
 
+-- and its history, where the words name one, was given what that lacked of it
+pub record Furnished {D : Type 0} (d : Ghosts D) (gives : Gives D) (j : Driving) : Type 0 where
+  pub fed : Fed d gives j
+  pub joined : Openings D
+  pub it : Equipped D d
+  pub equips : Equips d gives j.history (noted fed) fed.asked joined (Ok it)
+
 -- where a job of these words has come to its drive, that, by what is said of it; none where it ended before
 module _ {D W : Type 0} {d : Ghosts D} (means : Means d W) (j : Driving) (path : List ℕ)
     (named : j.output ≡ Some path) (result : Result Driven JobFault) where
@@ -81,23 +97,23 @@ module _ {D W : Type 0} {d : Ghosts D} (means : Means d W) (j : Driving) (path :
   abbrev pub set : Options → Setting d W
   set options = setting_of {d = d} means.stream means.Lent means.sources j options
 
-  -- of a disk that was supplied
-  module _ (fed : Fed d means.sources j) (new : Openings D) where
-    abbrev pub onto_fitting : (session : Session D d) → IsRecovered d fed.disk session
+  -- of a disk that has its history
+  module _ (there : Furnished d means.sources j) (new : Openings D) where
+    abbrev pub onto_fitting : (session : Session D d) → IsRecovered d there.it.disk session
         → (output : OpenedOutput D) → means.sources.Outputs path output
-        → DrivesOpenedOutput output fed.sized.options (ready session fed.it.intake)
-        (with_output fed.asked (opened path)) new result
+        → DrivesOpenedOutput output there.fed.sized.options (ready session there.it.beside)
+        (with_output there.joined (opened path)) new result
         → Comes
     onto_fitting session recovered output is_opened (inl refuses) = None
     onto_fitting session recovered output is_opened (inr takes) = Some (record {
-      found = fed.sized.found;
-      looked = fed.sized.looked;
-      sized = fed.sized.sized;
+      found = there.fed.sized.found;
+      looked = there.fed.sized.looked;
+      sized = there.fed.sized.sized;
       run = record {
-        start = fed.disk;
-        options = fed.sized.options;
-        intake = fed.it.intake;
-        input = takes.drives.input;
+        start = there.it.disk;
+        options = there.fed.sized.options;
+        beside = there.it.beside;
+        left = takes.drives.left;
         before = session;
         after = takes.drives.after;
         output = output.output;
@@ -105,12 +121,16 @@ module _ {D W : Type 0} {d : Ghosts D} (means : Means d W) (j : Driving) (path :
         answer = takes.drives.answer;
         drives = takes.drives.drives;
       };
-      asks = fed.sized.asks;
-      before = fed.before;
-      asked = fed.asked;
-      supplied = fed.it.disk;
-      supplies = fed.supplies;
-      notes = fed.notes;
+      asks = there.fed.sized.asks;
+      before = there.fed.before;
+      asked = there.fed.asked;
+      supplied = there.fed.it.disk;
+      intake = there.fed.it.intake;
+      supplies = there.fed.supplies;
+      noted = there.fed.disk;
+      notes = there.fed.notes;
+      joined = there.joined;
+      equips = there.equips;
       recovered = recovered;
       output = output;
       is_opened = is_opened;
@@ -118,22 +138,32 @@ module _ {D W : Type 0} {d : Ghosts D} (means : Means d W) (j : Driving) (path :
       fit = takes.fit;
     })
 
-    abbrev pub onto_opened : (session : Session D d) → IsRecovered d fed.disk session
-        → DrivesInto (means.sources.Outputs path) path fed.sized.options
-        (ready session fed.it.intake) fed.asked new result
+    abbrev pub onto_opened : (session : Session D d) → IsRecovered d there.it.disk session
+        → DrivesInto (means.sources.Outputs path) path there.fed.sized.options
+        (ready session there.it.beside) there.joined new result
         → Comes
     onto_opened session recovered (inl lacks) = None
     onto_opened session recovered (inr opens) =
         onto_fitting session recovered opens.output opens.is_opened opens.drives
 
-    abbrev pub of_fed : DrivesOpened (set fed.sized.options) (noted fed) fed.asked new result → Comes
-    of_fed (inl lacks) = None
-    of_fed (inr drives) =
+    abbrev pub of_furnished : DrivesOpened (set there.fed.sized.options) there.it there.joined new
+        result → Comes
+    of_furnished (inl lacks) = None
+    of_furnished (inr drives) =
         onto_opened drives.session drives.recovered
         (subst
-        (DrivesToward (set fed.sized.options) (ready drives.session fed.it.intake) fed.asked new
-        result)
+        (DrivesToward (set there.fed.sized.options) (ready drives.session there.it.beside)
+        there.joined new result)
         named drives.drives)
+
+  -- of one that notes its schedule
+  abbrev pub of_fed : (fed : Fed d means.sources j) → (joined new : Openings D)
+      → (found : Result (Equipped D d) JobFault)
+      → Equips d means.sources j.history (noted fed) fed.asked joined found
+      → DrivesEquipped (set fed.sized.options) joined new result found → Comes
+  of_fed fed joined new (Err fault) equips ends = None
+  of_fed fed joined new (Ok it) equips ends =
+      of_furnished (record { fed = fed; joined = joined; it = it; equips = equips }) new ends
 
   -- of one that has its input
   abbrev pub of_noted : (sized : Sized d j) → (before asked new : Openings D) → (it : Supplied D)
@@ -155,7 +185,7 @@ module _ {D W : Type 0} {d : Ghosts D} (means : Means d W) (j : Driving) (path :
         disk = disk;
         notes = notes;
       })
-      new ends
+      ends.asked new ends.found ends.equips ends.drives
 
   -- of one that fits the words
   abbrev pub of_sized : (sized : Sized d j) → (before asked new : Openings D)

@@ -13,13 +13,13 @@ use Rattle.ckrt_history.specs.Reads.{IsReadAs, is_device}
 use Rattle.ckrt_history.specs.Span.{TellsSpan}
 use Rattle.ckrt_history.specs.declared.fault.HistoryFault.{HistoryFault}
 use Rattle.ckrt_history.specs.declared.join_fault.JoinFault.{JoinFault}
-use Rattle.ckrt_history.specs.declared.join_fault.JoinFault.TheVariants as join
 use Rattle.ckrt_history.specs.declared.joined.Joined.{Joined}
 use Rattle.ckrt_history.specs.declared.joined.Joined.TheVariants.{Begun, Appended}
 use Rattle.ckrt_history.specs.declared.span.Span.{Span}
 use Rattle.ckrt_main.specs.declared.fault.ServeFault.TheVariants as serve
 use Rattle.ckrt_cli_words.specs.Jobs.{HistoryKeeping}
-use Rattle.ckrt_cli_files.specs.Openings.{Openings, opened, refused, with_closed, with_closed_output, with_disk, with_output}
+use Rattle.ckrt_cli_disk.specs.Equipping.{fault_of}
+use Rattle.ckrt_cli_files.specs.Openings.{Openings, opened, refused, with_all_closed, with_closed, with_disk, with_history}
 use Rattle.ckrt_cli_files.specs.declared.file.FileFault.{FileFault}
 use Rattle.ckrt_cli_files.specs.declared.file.JobFile.TheVariants as file
 use Rattle.ckrt_cli_files.specs.declared.output.OpenedOutput.{OpenedOutput}
@@ -100,13 +100,6 @@ pub record Both (D : Type 0) : Type 0 where
 abbrev pub both : {D : Type 0} → (disk history : D) → Both D
 both disk history = record { disk = disk; history = history }
 
-abbrev pub fault_of : JoinFault → JobFault
-fault_of (join.Disk f) = job.Recover f
-fault_of (join.File f) = job.History f
-fault_of join.TooSmall = job.HistoryFull
-fault_of join.HistoryBehind = job.HistoryBehind
-fault_of join.HistoryDiffers = job.HistoryDiffers
-
 -- A history was begun from the disk in a file that had so many bytes, or brought up to it, or why it wasn't; the disk was only read.
 pub record Joins {D : Type 0} (d : Ghosts D) (bytes : ℕ) (old new : Both D)
     (result : Result Joined JoinFault) : Type 0 where
@@ -144,7 +137,7 @@ pub record JoinsOpened {D : Type 0} (d : Ghosts D) (Opens : D → Type 0)
   pub is_output : Outputs output
   pub end : Both D
   pub joins : JoinsAndMeasures d output.length (both disk output.output) end result
-  pub closes : new ≡ with_closed (with_closed_output asked end.history) end.disk
+  pub closes : new ≡ with_all_closed asked (Some end.history) None end.disk
 
 -- the file of this path can't be opened, and the disk was closed as it was opened
 pub record LacksHistory {D : Type 0} (Opens : D → Type 0) (path : List ℕ) (asked new : Openings D)
@@ -153,7 +146,7 @@ pub record LacksHistory {D : Type 0} (Opens : D → Type 0) (path : List ℕ) (a
   pub is_disk : Opens disk
   pub why : FileFault
   pub is : result ≡ Err (job.File file.History why)
-  pub closes : new ≡ with_closed (with_output asked (refused path why)) disk
+  pub closes : new ≡ with_closed (with_history asked (refused path why)) disk
 
 -- the path of a history, and the outputs that it may stand for
 pub record Place (D : Type 0) : Type 1 where
@@ -165,7 +158,7 @@ abbrev pub JoinsWith : {D : Type 0} → Ghosts D → (D → Type 0) → Place D 
     → Result (Option Joined × Span) JobFault → Type 0
 JoinsWith d Opens it asked new result =
     LacksHistory Opens it.path asked new result
-    ⊎ JoinsOpened d Opens it.Outputs (with_output asked (opened it.path)) new result
+    ⊎ JoinsOpened d Opens it.Outputs (with_history asked (opened it.path)) new result
 
 -- a disk by its path, and the history that is brought up to it
 pub record Joining (D : Type 0) : Type 1 where

@@ -114,8 +114,9 @@ HoldsBehind c h Next (Some x) = (k : Holds c h x) × Next (past_behind (as_drive
 
 -- BEFORE A DRIVE
 
--- Reading a disk and recovering it leave it as it was, whatever a stop meanwhile leaves: with no zero behind it. Noting a schedule on it leaves it
--- so too, but for the notes. What is left so of what was left so was left so.
+-- Reading a disk leaves it as it was, whatever a stop meanwhile leaves: with no zero behind it. So does syncing it first, as recovering does it, and
+-- what gives a history that which it lacks of the disk. Noting a schedule on it leaves it so too, but for the notes. What is left so of what was
+-- left so was left so.
 pub record LeaveItLonger {D : Type 0} (d : Ghosts D) : Type 0 where
   pub reading : (start end left : D) (failed : Bool) → IsOnlyRead d start end failed
       → d.is_honest end → IsLeftSince d start end left → IsLengthened d start left

@@ -1,12 +1,13 @@
 -- Runs of the program as drives.
-use Rattle.std.specs.Prelude.{◌≡◌, ℕ, List, ◌∷◌, Option, Some, Result, Ok}
+use Rattle.std.specs.Prelude.{◌≡◌, ◌⊎◌, ℕ, false, List, ◌∷◌, Option, Some, Result, Ok}
 use Rattle.ckrt_disk.specs.declared.disk.Disk.{Ghosts}
 use Rattle.ckrt_drive.specs.Runs.{IsAtEnd}
 use Rattle.ckrt_drive.specs.Stages.{IsOver, Stage, stage}
-use Rattle.ckrt_drive.specs.declared.fault.DriveFault.{DriveFault}
+use Rattle.ckrt_history.specs.declared.keeping_fault.KeepingFault.{KeepingFault}
 use Rattle.ckrt_drive.specs.declared.options.Options.{Options}
 use Rattle.ckrt_schedule.specs.declared.next.ScheduleEnd.{ScheduleEnd}
 use Rattle.ckrt_cli_disk.specs.Driving.{DrivesWay, Way, way_of}
+use Rattle.ckrt_recovery.specs.Opening.{IsSyncedAndRead}
 use Rattle.ckrt_recovery.specs.Recovered.{IsRecovered}
 use Rattle.ckrt_cli_disk.specs.Feeding.{SuppliesFrom}
 use Rattle.ckrt_cli_disk.specs.Noting.{Notes}
@@ -14,29 +15,30 @@ use Rattle.ckrt_stored.specs.declared.schedule.ScheduleNote.{ScheduleNote}
 use Rattle.ckrt_cli_files.specs.Openings.{Openings}
 use Rattle.ckrt_cli_files.specs.Sources.{Gives}
 use Rattle.ckrt_cli_reports.specs.declared.driven.Driven.{Driven}
-use Rattle.ckrt_cli_disk.specs.declared.feeding.Intake.{Intake}
+use Rattle.ckrt_cli_disk.specs.declared.equipping.Beside.{Beside}
+use Rattle.ckrt_cli_disk.specs.declared.equipping.Left.{Left}
 use Rattle.ckrt_drive.specs.Offset.{offset_from}
 use Rattle.ckrt_recovery.specs.View.{view_of}
 use Rattle.ckrt_recovery.specs.declared.session.Session.{Session}
 use Rattle.ckrt_drive_theorem.specs.Drives.{IsDrive, IsToldByRecord, OneDrive}
 
--- A run of the program: the disk that it recovered, how it was to go, its input as it began and as it ended, where it had one, the session and
--- the output before and after it, and what it came to.
+-- A run of the program: the disk that it recovered, how it was to go, what was beside it as it began and as it ended, the session and the output
+-- before and after it, and what it came to.
 pub record ProgramRun {D O : Type 0} (d : Ghosts D) (o : Ghosts O) : Type 0 where
   pub start : D
   pub options : Options
-  pub intake : Option (Intake D)
-  pub input : Option D
+  pub beside : Beside D d
+  pub left : Left D
   pub before : Session D d
   pub after : Session D d
   pub output : O
   pub end : O
-  pub answer : Result Driven DriveFault
-  pub drives : DrivesWay o (way_of d options intake input) before after output end answer
+  pub answer : Result Driven KeepingFault
+  pub drives : DrivesWay o (way_of d options beside left) before after output end answer
 
 -- how it went, and what its program was given
-abbrev pub way_of_run : {D O : Type 0} {d : Ghosts D} {o : Ghosts O} → ProgramRun d o → Way
-way_of_run {d = d} r = way_of d r.options r.intake r.input
+abbrev pub way_of_run : {D O : Type 0} {d : Ghosts D} {o : Ghosts O} → ProgramRun d o → Way d
+way_of_run {d = d} r = way_of d r.options r.beside r.left
 
 -- as a drive, which was stopped at this stage
 abbrev pub drive_of : {D O : Type 0} {d : Ghosts D} {o : Ghosts O} → ProgramRun d o → Stage d o
@@ -78,13 +80,17 @@ abbrev pub TellsIfLonger : {D : Type 0} → Ghosts D → (old new : Openings D) 
 TellsIfLonger {D = D} d old new start =
     (looked : D) → new.lengthened ≡ looked ∷ old.lengthened → TellsAsBefore d looked start
 
--- A run whose disk and input were supplied to it so, and whose schedule was then noted, was told what the record of that disk says: the words
--- have their say only where the disk can't tell.
+-- A disk as it is once its history, where it has one, was given what that lacked of it: synced, and then only read.
+abbrev pub IsJoined : {D : Type 0} → Ghosts D → (noted start : D) → Type 0
+IsJoined d noted start = (start ≡ noted) ⊎ IsSyncedAndRead d noted start false
+
+-- A run whose disk and input were supplied to it so, whose schedule was then noted, and whose history was given what it lacked, was told what the
+-- record of that disk says: the words have their say only where the disk can't tell.
 abbrev pub RunsAreTold : {D O : Type 0} → Ghosts D → Ghosts O → Gives D → Type 0
 RunsAreTold {D = D} d o gives =
-    (r : ProgramRun d o) (found supplied : D) (path : List ℕ) (from : Option ℕ) (old new : Openings D)
-    (schedule : ScheduleNote) → TellsIfLonger d old new supplied
+    (r : ProgramRun d o) (found supplied noted : D) (path : List ℕ) (from : Option ℕ)
+    (old new : Openings D) (schedule : ScheduleNote) → TellsIfLonger d old new supplied
     → SuppliesFrom d gives path from found old new
-    (Ok (record { disk = supplied; intake = r.intake }))
-    → Notes d schedule supplied r.start (Ok tt) → IsRecovered d r.start r.before
-    → d.is_honest r.after.disk → (at : Stage d o) → IsToldByRecord (drive_of r at)
+    (Ok (record { disk = supplied; intake = r.beside.intake }))
+    → Notes d schedule supplied noted (Ok tt) → IsJoined d noted r.start
+    → IsRecovered d r.start r.before → d.is_honest r.after.disk → (at : Stage d o) → IsToldByRecord (drive_of r at)

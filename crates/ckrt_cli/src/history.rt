@@ -3,13 +3,14 @@ ghost use Rattle.std.specs.Prelude.{◌≡◌, ◌∷◌, ◌++◌, [], ℕ, Lis
 ghost use Rattle.std.specs.Io.KnownBytes.{Appends};
 ghost use Rattle.ckrt_cli_words.specs.Jobs.{history_keeping_of};
 ghost use Rattle.ckrt_cli_reports.specs.Outside.{outside};
-ghost use Rattle.ckrt_cli.specs.Histories.{Finds, JoinsAndMeasures, JoinsOpened, JoinsPath, JoinsWith, Measures, MeasuresOpened, MeasuresPath, SaysHistory, TellsHistory, both, fault_of, given, history_text, joined_text, joining, span_text};
+ghost use Rattle.ckrt_cli.specs.Histories.{Finds, JoinsAndMeasures, JoinsOpened, JoinsPath, JoinsWith, Measures, MeasuresOpened, MeasuresPath, SaysHistory, TellsHistory, both, given, history_text, joined_text, joining, span_text};
 
+use ckrt_cli_disk::fault_of;
 use ckrt_cli_files::{JobFile, OpenedOutput, Sources};
 use ckrt_cli_reports::JobFault;
 use ckrt_cli_words::HistoryJob;
 use ckrt_disk::Disk;
-use ckrt_history::{JoinFault, Joined, Span, begin_or_bring_up, history_span};
+use ckrt_history::{Joined, Span, begin_or_bring_up, history_span};
 use ckrt_look_calls::write_counted;
 use ckrt_main::ServeFault;
 use std::alloc::Global;
@@ -66,19 +67,6 @@ fn say<W: Write>(out: &mut W, found: &Found) -> Result<(), JobFault>
         return Err(JobFault::Serve(ServeFault::Write));
     }
     Ok(())
-}
-
-/// What the job answers where a history has no more of its disk.
-fn fault_of(fault: JoinFault) -> JobFault
-    ensures { result ≡ fault_of fault }
-{
-    match fault {
-        JoinFault::Disk(fault) => JobFault::Recover(fault),
-        JoinFault::File(fault) => JobFault::History(fault),
-        JoinFault::TooSmall => JobFault::HistoryFull,
-        JoinFault::HistoryBehind => JobFault::HistoryBehind,
-        JoinFault::HistoryDiffers => JobFault::HistoryDiffers,
-    }
 }
 
 /// Reads how far a history goes.
@@ -140,7 +128,7 @@ fn join_opened<'a, I: Read, D: Disk, S: Sources<'a, I, D>>(
     let (mut disk, bytes) = (disk, output.length as usize);
     let mut history = output.output;
     let found = join(alloc, &mut disk, &mut history, bytes);
-    sources.close_output(history);
+    sources.close_history(history);
     sources.close(disk);
     found
 }

@@ -6,9 +6,9 @@
 //! Proved of [`run_words_with`]: its outcome is the one that the words ask for, and the status is that outcome's: for
 //! `format` that of making the disk of DISK with the image of IMAGE, and then the line `formatted SIZE`; for `run` that of
 //! running the disk of DISK; for `inspect` that of showing it; for `core` that of writing its core into FILE; for `drive` that of driving it with its output in FILE or on a
-//! stream, and then the line of what it came to; for no words that of serving the stored program, of which a service that
+//! stream, and with the history that the words name, and then the line of what it came to; for no words that of serving the stored program, of which a service that
 //! ends early has written a beginning; for `--version` the line of version and kit. Where a line can't be written, what was
-//! written is a beginning of it. The files that were asked for are those of DISK, IMAGE, input and output, each once, and none where the
+//! written is a beginning of it. The files that were asked for are those of DISK, IMAGE, input, output and history, each once, and none where the
 //! words name none; the disk is closed as its job left it, once, by who knows nothing of it and so can't write to it. A disk
 //! that can't be opened is a fault of File with what its sources said of that path. What was reported of a fault ends with the line
 //! with its name, or the reporter failed. The status is 2 never

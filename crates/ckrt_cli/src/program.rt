@@ -270,7 +270,7 @@ fn perform<
 /// `formatted SIZE`, `history FILE` tells how far that history goes, and brings it up to a disk first where the words name one, `run DISK` answers the lines of the reader, `inspect DISK` shows what the disk holds, `core DISK FILE`
 /// writes it as a core into FILE, `calls DISK` tells its calls, `debug DISK` serves it to gdb, `races DISK` tells its data races and `check DISK` its errors of memory, with callers by these rules, `profile DISK` where its
 /// steps went, `timeline DISK` draws what its threads did, `hunt IMAGE` tells what other schedules come to, `drive DISK`
-/// runs its program to its end, with its output in a file or printed, and reports what it came to in a line, `--version`
+/// runs its program to its end, with its output in a file or printed, keeps its history where the words name one, and reports what it came to in a line, `--version`
 /// prints the version and its kit, no words serve the stored program in memory. Of a fault two lines are reported: what is
 /// wrong in plain words, with the path of the file that it is of, and `ckrt: NAME`. Of words that name no job a text is. A
 /// drive is looked on by the meter, and so is a hunt. The answer is the program's status: 0 where all was done, 1 for a fault, 2 for words that

@@ -3,26 +3,28 @@ use Rattle.std.proofs.Common.{◌≡◌, ℕ, true, sym, subst, List, Option, So
 use Rattle.ckrt_machine.specs.Steps.{State}
 use Rattle.ckrt_disk.specs.declared.disk.DeviceFault.{DeviceFault}
 use Rattle.ckrt_disk.specs.declared.disk.Disk.{Ghosts}
-use Rattle.ckrt_drive.specs.declared.fault.DriveFault.{DriveFault}
+use Rattle.ckrt_history.specs.declared.keeping_fault.KeepingFault.{KeepingFault}
 use Rattle.ckrt_drive.specs.declared.options.Options.{Options}
 use Rattle.ckrt_schedule.specs.declared.next.ScheduleEnd.{ScheduleEnd}
 use Rattle.ckrt_drive.specs.declared.stream.StreamOutput.{StreamOutput}
 use Rattle.ckrt_stored.specs.declared.fault.RecoverFault.{RecoverFault}
 use Rattle.ckrt_cli_words.specs.Jobs.{Driving}
-use Rattle.ckrt_cli_disk.specs.Driving.{DrivesBehindNote, DrivesFed, DrivesInRange, DrivesLooked, DrivesNoted, DrivesOpened, DrivesPath, DrivesSized, DrivesSupplied, DrivesToward, IsAsked, Ready, Setting, driven_of, means_of, ready, setting_of}
+use Rattle.ckrt_cli_disk.specs.Driving.{DrivesBehindNote, DrivesEquipped, DrivesFed, DrivesInRange, DrivesJoined, DrivesLooked, DrivesNoted, DrivesOpened, DrivesPath, DrivesSized, DrivesSupplied, DrivesToward, IsAsked, Ready, Setting, driven_of, means_of, ready, setting_of}
 use Rattle.ckrt_cli_reports.specs.Ranges.{is_in_range, config_for}
+use Rattle.ckrt_cli_disk.specs.Equipping.{Equips}
 use Rattle.ckrt_cli_disk.specs.Feeding.{EndsWithRoom, MakesRoom, Supplies, SuppliesOpened, SuppliesTaken, made_size}
 use Rattle.ckrt_cli_disk.specs.Missing.{FindsDisk}
 use Rattle.ckrt_cli_files.specs.Openings.{Openings}
 use Rattle.ckrt_cli_files.specs.Sources.{Gives, GivesNoMore}
 use Rattle.ckrt_cli_reports.specs.declared.driven.Driven.{Driven}
 use Rattle.ckrt_cli_reports.specs.declared.fault.JobFault.{JobFault}
+use Rattle.ckrt_cli_disk.specs.declared.equipping.Equipped.{Equipped}
 use Rattle.ckrt_cli_disk.specs.declared.feeding.Intake.{Intake}
 use Rattle.ckrt_cli_disk.specs.declared.feeding.Supplied.{Supplied}
 use Rattle.ckrt_cli_disk.specs.declared.feeding.Unready.{Unready}
 
 -- what is true of a run's fault is true of the drive's
-pub err_kept : (s : State) (r : Result (Option ScheduleEnd) DriveFault) (P : DriveFault → Type 0) → IfErr r P → IfErr (driven_of s r) P
+pub err_kept : (s : State) (r : Result (Option ScheduleEnd) KeepingFault) (P : KeepingFault → Type 0) → IfErr r P → IfErr (driven_of s r) P
 err_kept s (Ok ending) P h = tt
 err_kept s (Err fault) P h = h
 
@@ -59,6 +61,11 @@ module _ {D : Type 0} (d : Ghosts D) (before after : Gives D) (are : GivesNoMore
   supplies_weaker (Some path) from start old new found s =
       record { disk = s.disk; taken = s.taken; looks = s.looks; ends = taken_weaker path s.disk old new found s.taken s.ends }
 
+  equips_weaker : (path : Option (List ℕ)) (start : Supplied D) (old new : Openings D) (found : Result (Equipped D d) JobFault) → Equips d after path start old new found → Equips d before path start old new found
+  equips_weaker None start old new found as_it_is = as_it_is
+  equips_weaker (Some path) start old new found (inl lacks) = inl lacks
+  equips_weaker (Some path) start old new found (inr opens) = inr (record { output = opens.output; is_opened = are.outputs path opens.output opens.is_opened; equips = opens.equips })
+
   module _ {W : Type 0} (o : Ghosts (StreamOutput W)) (Lent : (stream end : StreamOutput W) → Type 0) (j : Driving) (options : Options) (new : Openings D) (result : Result Driven JobFault) where
     abbrev set : Gives D → Setting d W
     set gives = setting_of o Lent gives j options
@@ -71,7 +78,7 @@ module _ {D : Type 0} (d : Ghosts D) (before after : Gives D) (are : GivesNoMore
       begins = s.begins;
       after = s.after;
       end = s.end;
-      input = s.input;
+      left = s.left;
       kept = s.kept;
       answer = s.answer;
       drives = s.drives;
@@ -81,10 +88,22 @@ module _ {D : Type 0} (d : Ghosts D) (before after : Gives D) (are : GivesNoMore
       closes = s.closes;
     }
 
-    pub opened_weaker : (old : Openings D) (start : Supplied D) → DrivesOpened (set after) start old new result → DrivesOpened (set before) start old new result
+    pub opened_weaker : (old : Openings D) (start : Equipped D d) → DrivesOpened (set after) start old new result → DrivesOpened (set before) start old new result
     opened_weaker old start (inl lacks) = inl lacks
     opened_weaker old start (inr drives) =
-        inr (record { session = drives.session; recovered = drives.recovered; drives = toward_weaker old j.output (ready drives.session start.intake) drives.drives })
+        inr (record { session = drives.session; recovered = drives.recovered; drives = toward_weaker old j.output (ready drives.session start.beside) drives.drives })
+
+    equipped_weaker : (old : Openings D) (found : Result (Equipped D d) JobFault) → DrivesEquipped (set after) old new result found → DrivesEquipped (set before) old new result found
+    equipped_weaker old (Ok it) drives = opened_weaker old it drives
+    equipped_weaker old (Err fault) same = same
+
+    joined_weaker : (old : Openings D) (start : Supplied D) → DrivesJoined (set after) start old new result → DrivesJoined (set before) start old new result
+    joined_weaker old start joined = record {
+      found = joined.found;
+      asked = joined.asked;
+      equips = equips_weaker j.history start old joined.asked joined.found joined.equips;
+      drives = equipped_weaker joined.asked joined.found joined.drives;
+    }
 
     pub noted_weaker : (old : Openings D) (start : Supplied D) → DrivesNoted (set after) start old new result → DrivesNoted (set before) start old new result
     noted_weaker old start noted = record { disk = noted.disk; answer = noted.answer; notes = noted.notes; drives = behind_weaker noted.answer noted.drives }
@@ -92,7 +111,7 @@ module _ {D : Type 0} (d : Ghosts D) (before after : Gives D) (are : GivesNoMore
         behind_weaker : (answer : Result (Unit {0}) DeviceFault) → DrivesBehindNote (set after) (record { disk = noted.disk; intake = start.intake }) old new result answer
             → DrivesBehindNote (set before) (record { disk = noted.disk; intake = start.intake }) old new result answer
         behind_weaker (Err failed) closed = closed
-        behind_weaker (Ok done) drives = opened_weaker old (record { disk = noted.disk; intake = start.intake }) drives
+        behind_weaker (Ok done) drives = joined_weaker old (record { disk = noted.disk; intake = start.intake }) drives
 
     supplied_weaker : (old : Openings D) (found : Result (Supplied D) JobFault) → DrivesSupplied (set after) old new result found → DrivesSupplied (set before) old new result found
     supplied_weaker old (Ok it) drives = noted_weaker old it drives

@@ -1,6 +1,7 @@
 mod CoreLemmas
 mod DriveLemmas
 pub mod FrontLemmas
+mod KeepingLemmas
 mod MakingLemmas
 mod MissingLemmas
 mod PrintLemmas

@@ -1,6 +1,6 @@
 -- The drive of a disk, with its input from a file, and its output in a disk of its own or on the standard output: from the words' options to
 -- the ending.
-use Rattle.std.specs.Prelude.{◌≡◌, ◌⊎◌, ◌-◌, ◌^◌, ℕ, Bool, true, false, List, Option, Some, None, Result, Ok, Err, IfErr, IfOk, IfSome, is_err, is_some}
+use Rattle.std.specs.Prelude.{◌≡◌, ◌⊎◌, ◌≤◌, ◌-◌, ◌^◌, ℕ, Bool, true, false, List, Option, Some, None, Result, Ok, Err, IfErr, IfOk, IfSome, is_err, is_some}
 use Rattle.ckrt_stored.specs.declared.schedule.ScheduleNote.{ScheduleNote}
 use Rattle.ckrt_disk.specs.Disk.{HasFailed}
 use Rattle.ckrt_disk.specs.Frame.{IsOnlyRead}
@@ -15,15 +15,22 @@ use Rattle.ckrt_recovery.specs.Recovered.{IsRecovered}
 use Rattle.ckrt_recovery.specs.declared.session.Session.{Session}
 use Rattle.ckrt_machine.specs.Steps.{State}
 use Rattle.ckrt_drive.specs.Runs.{Runs}
-use Rattle.ckrt_drive.specs.Stages.{GoesBySteps, IsOver, stage}
+use Rattle.ckrt_drive.specs.Stages.{GoesBySteps, IsOver, Stage, stage}
 use Rattle.ckrt_drive.specs.Streams.{got_to, writer_of}
 use Rattle.ckrt_drive.specs.declared.fault.DriveFault.{DriveFault}
 use Rattle.ckrt_drive.specs.declared.fault.DriveFault.TheVariants.{Output}
 use Rattle.ckrt_drive.specs.declared.options.Options.{Options}
+use Rattle.ckrt_history.specs.Keeping.{GoesByKeeping, keeping_stage}
+use Rattle.ckrt_history.specs.declared.fault.HistoryFault.TheVariants as history
+use Rattle.ckrt_history.specs.declared.keeping_fault.KeepingFault.{KeepingFault}
+use Rattle.ckrt_history.specs.declared.keeping_fault.KeepingFault.TheVariants.{Device, Drive, Full}
+use Rattle.ckrt_history.specs.declared.kept.KeptHistory.{KeptHistory}
+use Rattle.ckrt_history.specs.declared.opened.OpenHistory.{OpenHistory}
 use Rattle.ckrt_schedule.specs.declared.next.ScheduleEnd.{ScheduleEnd}
 use Rattle.ckrt_drive.specs.declared.stream.StreamOutput.{StreamOutput}
 use Rattle.ckrt_cli_words.specs.Jobs.{Driving}
 use Rattle.ckrt_cli_disk.specs.Addresses.{fault_address}
+use Rattle.ckrt_cli_disk.specs.Equipping.{Equips, left_of, with_left_closed}
 use Rattle.ckrt_cli_disk.specs.Feeding.{Supplies, file_of, made_size}
 use Rattle.ckrt_cli_reports.specs.Lengths.{fits, lengths_of}
 use Rattle.ckrt_cli_disk.specs.Missing.{FindsDisk}
@@ -35,6 +42,9 @@ use Rattle.ckrt_cli_files.specs.Sources.{Gives}
 use Rattle.ckrt_cli_reports.specs.declared.driven.Driven.{Driven}
 use Rattle.ckrt_cli_reports.specs.declared.fault.JobFault.{JobFault}
 use Rattle.ckrt_cli_reports.specs.declared.fault.JobFault.TheVariants as job
+use Rattle.ckrt_cli_disk.specs.declared.equipping.Beside.{Beside}
+use Rattle.ckrt_cli_disk.specs.declared.equipping.Equipped.{Equipped}
+use Rattle.ckrt_cli_disk.specs.declared.equipping.Left.{Left}
 use Rattle.ckrt_cli_disk.specs.declared.feeding.Intake.{Intake}
 use Rattle.ckrt_cli_disk.specs.declared.feeding.Supplied.{Supplied}
 use Rattle.ckrt_cli_files.specs.declared.file.JobFile.TheVariants as file
@@ -63,66 +73,124 @@ pub record IsAsked (j : Driving) (o : Options) : Type 0 where
 -- THE SESSION
 
 -- what a drive came to where its run answered so, and the machine is in this state
-abbrev pub driven_of : State → Result (Option ScheduleEnd) DriveFault → Result Driven DriveFault
+abbrev pub driven_of : State → Result (Option ScheduleEnd) KeepingFault
+    → Result Driven KeepingFault
 driven_of s (Ok ending) =
     Ok (record { ending = ending; status = s.tables.status; address = fault_address s })
 driven_of s (Err fault) = Err fault
 
--- How a drive goes, and what its program is given: these bytes, if any, where they were read as they are, from those on that it had taken.
-pub record Way : Type 1 where
+-- How a drive goes, and what its program is given: these bytes, if any, where they were read as they are, from those on that it had taken. And
+-- the history that it keeps, if it keeps one, and the file of that as it ends.
+pub record Way {D : Type 0} (d : Ghosts D) : Type 1 where
   pub options : Options
   pub IsRead : Type 0
   pub file : Option (List ℕ)
   pub taken : ℕ
+  pub history : Option (KeptHistory D d)
+  pub kept : Option D
 
 -- without an input
-abbrev pub unfed : Options → Way
-unfed options = record { options = options; IsRead = Unit {0}; file = None; taken = 0 }
-
--- with this one, which ends so: its bytes are those of its file, where that was honest to the end
-abbrev pub fed_from : {D : Type 0} → Ghosts D → Options → Intake D → (end : D) → Way
-fed_from d options it end = record {
+abbrev pub unfed : {D : Type 0} {d : Ghosts D} → Options → Option (KeptHistory D d)
+    → (kept : Option D) → Way d
+unfed options history kept = record {
   options = options;
-  IsRead = d.is_honest end;
-  file = Some (d.content it.file);
-  taken = it.taken;
+  IsRead = Unit {0};
+  file = None;
+  taken = 0;
+  history = history;
+  kept = kept;
 }
 
+-- with this one, which ends so: its bytes are those of its file, where that was honest to the end
+abbrev pub fed_from : {D : Type 0} → (d : Ghosts D) → Way d → Intake D → (end : D) → Way d
+fed_from d way it end =
+    record way { IsRead = d.is_honest end; file = Some (d.content it.file); taken = it.taken }
+
 -- with an input, where there is one; one that begins also ends
-abbrev pub way_of : {D : Type 0} → Ghosts D → Options → Option (Intake D) → (end : Option D) → Way
-way_of d options None end = unfed options
-way_of d options (Some it) None = unfed options
-way_of d options (Some it) (Some end) = fed_from d options it end
+abbrev pub with_intake : {D : Type 0} → (d : Ghosts D) → Way d → Option (Intake D)
+    → (end : Option D) → Way d
+with_intake d way None end = way
+with_intake d way (Some it) None = way
+with_intake d way (Some it) (Some end) = fed_from d way it end
+
+-- with what is beside it, of which this is left
+abbrev pub way_of : {D : Type 0} → (d : Ghosts D) → Options → Beside D d → Left D → Way d
+way_of d options beside left =
+    with_intake d (unfed options beside.history left.history) beside.intake left.input
+
+-- what a drive that keeps no history tells where its run answered so
+abbrev pub without_history : Result (Option ScheduleEnd) DriveFault
+    → Result (Option ScheduleEnd) KeepingFault
+without_history (Ok ending) = Ok ending
+without_history (Err fault) = Err (Drive fault)
+
+-- A drive tells this where its own run, of so many steps at most, came to that: the same, with all the steps that there are to it, unless the history
+-- failed. Then it made these steps, and came to no end.
+abbrev pub TellsOf : (told : Result (Option ScheduleEnd) KeepingFault) → (steps : ℕ)
+    → (ran : Result (Option ScheduleEnd) DriveFault) → Type 0
+TellsOf (Ok ending) steps ran = (steps ≡ 2 ^ 64 - 1) × (ran ≡ Ok ending)
+TellsOf (Err (Drive fault)) steps ran = (steps ≡ 2 ^ 64 - 1) × (ran ≡ Err fault)
+TellsOf (Err Device) steps ran = (steps ≤ 2 ^ 64 - 1) × (ran ≡ Ok None)
+TellsOf (Err Full) steps ran = (steps ≤ 2 ^ 64 - 1) × (ran ≡ Ok None)
+
+-- the history didn't fail
+abbrev pub HistoryHolds : Result (Option ScheduleEnd) KeepingFault → Type 0
+HistoryHolds (Ok ending) = Unit {0}
+HistoryHolds (Err (Drive fault)) = Unit {0}
+HistoryHolds (Err Device) = ⊥
+HistoryHolds (Err Full) = ⊥
+
+-- What a history got while its drive went from x to y and then told this: batch by batch what the disk has, before anything else was done. Its
+-- file is this one in the end. Where there is none, none fails.
+abbrev pub GetsHistory : {D O : Type 0} {d : Ghosts D} {o : Ghosts O} → Options → (x y : Stage d o)
+    → Option (KeptHistory D d) → (kept : Option D)
+    → (told : Result (Option ScheduleEnd) KeepingFault) → Type 0
+GetsHistory options x y None kept told = (kept ≡ None) × HistoryHolds told
+GetsHistory options x y (Some it) None told = ⊥
+GetsHistory {d = d} options x y (Some it) (Some end) told =
+    (place : OpenHistory)
+    × GoesByKeeping options (keeping_stage d x it.file it.place) (keeping_stage d y end place) told
 
 -- From s to t, with its output from a to b, a session was driven this way: by the plan, with all its events left, up to an end.
-pub record DrivesWay {D O : Type 0} {g : Ghosts D} (o : Ghosts O) (way : Way) (s t : Session D g)
-    (a b : O) (answer : Result Driven DriveFault) : Type 0 where
+pub record DrivesWay {D O : Type 0} {g : Ghosts D} (o : Ghosts O) (way : Way g) (s t : Session D g)
+    (a b : O) (answer : Result Driven KeepingFault) : Type 0 where
+  -- what its run came to, in how many steps at most, and what was told of that: another thing only where the history failed
   pub ran : Result (Option ScheduleEnd) DriveFault
+  pub steps : ℕ
+  pub told : Result (Option ScheduleEnd) KeepingFault
+  pub tells : TellsOf told steps ran
   -- how many events are left in the end, and how many bytes of input the program has taken
   pub left : ℕ
   pub taken : ℕ
   -- what it did, what every stop left, what was acknowledged, and what the output holds
-  pub runs : Runs o way.options (2 ^ 64 - 1) way.options.events left s t a b ran
+  pub runs : Runs o way.options steps way.options.events left s t a b ran
   -- step by step
   pub by_steps : GoesBySteps way.options way.IsRead way.file
       (stage o way.options.events way.taken s a) (stage o left taken t b)
   -- and nothing is next at an end
   pub over : way.IsRead
       → IfOk ran (λ ended. IfSome ended (IsOver way.options way.file (stage o left taken t b)))
+  -- what the history got
+  pub gets : GetsHistory way.options (stage o way.options.events way.taken s a)
+      (stage o left taken t b) way.history way.kept told
   -- the program stands as it says
-  pub gives : answer ≡ driven_of t.progress.machine.state ran
-  pub output : IfErr answer (λ fault. fault ≡ Output → HasFailed (o.failures a) (o.failures b))
+  pub gives : answer ≡ driven_of t.progress.machine.state told
+  pub output : IfErr answer (λ fault.
+      fault ≡ Drive Output → HasFailed (o.failures a) (o.failures b))
 
 -- THE FILES
 
 -- what a job answers where its drive answered so; of an output that failed it says why
-abbrev pub answer_of : OutputReason → Result Driven DriveFault → Result Driven JobFault
+abbrev pub answer_of : OutputReason → Result Driven KeepingFault → Result Driven JobFault
 answer_of why (Ok driven) = Ok driven
-answer_of why (Err Output) = Err (job.OutputFailed why)
-answer_of why (Err fault) = Err (job.Drive fault)
+answer_of why (Err (Drive Output)) = Err (job.OutputFailed why)
+answer_of why (Err (Drive fault)) = Err (job.Drive fault)
+answer_of why (Err Device) = Err (job.History history.Device)
+answer_of why (Err Full) = Err job.HistoryFull
 
 -- What a drive is set among: its stream, and how that is lent its writer; what sources may give; the file of its input, and where the words say
--- that it goes on; where its output goes, and below which offset it is left out; the schedule that it notes; and how it goes.
+-- that it goes on; where its output goes, and below which offset it is left out; the history that it keeps; the schedule that it notes; and how it
+-- goes.
 pub record Setting {D : Type 0} (d : Ghosts D) (W : Type 0) : Type 1 where
   pub stream : Ghosts (StreamOutput W)
   pub Lent : (stream end : StreamOutput W) → Type 0
@@ -131,6 +199,7 @@ pub record Setting {D : Type 0} (d : Ghosts D) (W : Type 0) : Type 1 where
   pub input_from : Option ℕ
   pub output : Option (List ℕ)
   pub from : ℕ
+  pub history : Option (List ℕ)
   pub schedule : ScheduleNote
   pub options : Options
 
@@ -144,32 +213,33 @@ setting_of o Lent gives j options = record {
   input_from = j.input_from;
   output = j.output;
   from = offset_of j.from;
+  history = j.history;
   schedule = asked_schedule j;
   options = options;
 }
 
--- A session that is ready to be driven, with an input, where there is one.
+-- A session that is ready to be driven, with what is beside it.
 pub record Ready {D : Type 0} (d : Ghosts D) : Type 0 where
   pub session : Session D d
-  pub intake : Option (Intake D)
+  pub beside : Beside D d
 
-abbrev pub ready : {D : Type 0} {d : Ghosts D} → Session D d → Option (Intake D) → Ready d
-ready s intake = record { session = s; intake = intake }
+abbrev pub ready : {D : Type 0} {d : Ghosts D} → Session D d → Beside D d → Ready d
+ready s beside = record { session = s; beside = beside }
 
 -- it was driven onto an output that was opened, and all were closed as the drive left them. The openings go from asked to new.
 pub record DrivesOnto {D : Type 0} {d : Ghosts D} (options : Options) (it : Ready d) (output : D)
     (asked new : Openings D) (result : Result Driven JobFault) : Type 0 where
   pub after : Session D d
   pub end : D
-  -- the input, as the drive left it
-  pub input : Option D
-  pub kept : is_some input ≡ is_some it.intake
-  pub answer : Result Driven DriveFault
-  pub drives : DrivesWay d (way_of d options it.intake input) it.session after output end answer
+  -- what was beside it, as the drive left that
+  pub left : Left D
+  pub kept : is_some left.input ≡ is_some it.beside.intake
+  pub answer : Result Driven KeepingFault
+  pub drives : DrivesWay d (way_of d options it.beside left) it.session after output end answer
   -- why the output failed, if it did
   pub why : OutputReason
   pub gives : result ≡ answer_of why answer
-  pub closes : new ≡ with_both_closed (with_closed_output asked end) input after.disk
+  pub closes : new ≡ with_left_closed (with_closed_output asked end) left after.disk
 
 -- the output that was opened can't be the disk's, by the length of its file, and all were closed as they were
 pub record RefusesOutput {D : Type 0} {d : Ghosts D} (output : OpenedOutput D) (it : Ready d)
@@ -177,7 +247,7 @@ pub record RefusesOutput {D : Type 0} {d : Ghosts D} (output : OpenedOutput D) (
   pub unfit : fits (lengths_of output.length it.session) ≡ false
   pub is : result ≡ Err (job.OutputDiffers (lengths_of output.length it.session))
   pub closes : new
-      ≡ with_both_closed (with_closed_output asked output.output) (file_of it.intake)
+      ≡ with_left_closed (with_closed_output asked output.output) (left_of it.beside)
       it.session.disk
 
 -- the length of its file fits the disk, and the session was driven onto it
@@ -199,12 +269,13 @@ pub record OpensOutput {D : Type 0} {d : Ghosts D} (Outputs : OpenedOutput D →
   pub is_opened : Outputs output
   pub drives : DrivesOpenedOutput output options it (with_output old (opened path)) new result
 
--- What became of a session whose output goes into the file of a path: where that can't be opened disk and input were closed as they were.
+-- What became of a session whose output goes into the file of a path: where that can't be opened the disk and what is beside it were closed as
+-- they were.
 abbrev pub DrivesInto : {D : Type 0} {d : Ghosts D} → (OpenedOutput D → Type 0) → (path : List ℕ)
     → Options → Ready d → (old new : Openings D) → Result Driven JobFault → Type 0
 DrivesInto Outputs path options it old new result =
     Lacks file.Output path
-    (λ x. with_both_closed (with_output old x) (file_of it.intake) it.session.disk) new result
+    (λ x. with_left_closed (with_output old x) (left_of it.beside) it.session.disk) new result
     ⊎ OpensOutput Outputs path options it old new result
 
 -- A stream is lent the job's writer, from its beginning to its end: that holds what the writer held before, and in the end what it holds after
@@ -214,24 +285,25 @@ pub record IsLent {W : Type 0} (contents : W → Option (List ℕ)) (a b : Optio
   pub before : contents (writer_of stream) ≡ a
   pub behind : contents (writer_of end) ≡ b
 
--- the session was driven onto a stream that leaves out the bytes below an offset, and disk and input were closed as the drive left them
+-- the session was driven onto a stream that leaves out the bytes below an offset, and the disk and what is beside it were closed as the drive
+-- left them
 pub record DrivesStream {D W : Type 0} {d : Ghosts D} (set : Setting d W) (it : Ready d)
     (old new : Openings D) (result : Result Driven JobFault) : Type 0 where
   pub stream : StreamOutput W
   pub begins : got_to stream ≡ set.from
   pub after : Session D d
   pub end : StreamOutput W
-  pub input : Option D
-  pub kept : is_some input ≡ is_some it.intake
-  pub answer : Result Driven DriveFault
-  pub drives : DrivesWay set.stream (way_of d set.options it.intake input) it.session after
+  pub left : Left D
+  pub kept : is_some left.input ≡ is_some it.beside.intake
+  pub answer : Result Driven KeepingFault
+  pub drives : DrivesWay set.stream (way_of d set.options it.beside left) it.session after
       stream end answer
   -- nothing is written but by the stream
   pub lent : set.Lent stream end
   -- why the output failed, if it did
   pub why : OutputReason
   pub gives : result ≡ answer_of why answer
-  pub closes : new ≡ with_both_closed old input after.disk
+  pub closes : new ≡ with_left_closed old left after.disk
 
 -- the session was driven with its output in the file of a path, where there is one, else onto a stream
 abbrev pub DrivesToward : {D W : Type 0} {d : Ghosts D} → Setting d W → Ready d
@@ -252,27 +324,43 @@ IsUnwritten None a b = Unit {0}
 -- THE DISK
 
 -- nothing was recovered, and no output was asked for; the fault is the content's, or the device failed a call, or memory was refused
-pub record LacksRecovery {D : Type 0} (d : Ghosts D) (start : D) (input : Option D)
+pub record LacksRecovery {D : Type 0} (d : Ghosts D) (start : D) (left : Left D)
     (old new : Openings D) (result : Result Driven JobFault) : Type 0 where
   pub end : D
   pub why : RecoverFault
   pub is : result ≡ Err (job.Recover why)
   pub content : d.is_honest end → AgreesOnFault why (Recovers (d.content start))
   pub disk : IsSyncedAndRead d start end (is_device {X = Unit {0}} (Err why))
-  pub closes : new ≡ with_both_closed old input end
+  pub closes : new ≡ with_left_closed old left end
 
 -- the disk was recovered, and driven
-pub record DrivesDisk {D W : Type 0} {d : Ghosts D} (set : Setting d W) (start : Supplied D)
+pub record DrivesDisk {D W : Type 0} {d : Ghosts D} (set : Setting d W) (start : Equipped D d)
     (old new : Openings D) (result : Result Driven JobFault) : Type 0 where
   pub session : Session D d
   pub recovered : IsRecovered d start.disk session
-  pub drives : DrivesRecovered set (ready session start.intake) old new result
+  pub drives : DrivesRecovered set (ready session start.beside) old new result
 
-abbrev pub DrivesOpened : {D W : Type 0} {d : Ghosts D} → Setting d W → Supplied D
+abbrev pub DrivesOpened : {D W : Type 0} {d : Ghosts D} → Setting d W → Equipped D d
     → (old new : Openings D) → Result Driven JobFault → Type 0
 DrivesOpened {d = d} set start old new result =
-    LacksRecovery d start.disk (file_of start.intake) old new result
+    LacksRecovery d start.disk (left_of start.beside) old new result
     ⊎ DrivesDisk set start old new result
+
+-- THE HISTORY
+
+-- it was driven with its history, where that could be had
+abbrev pub DrivesEquipped : {D W : Type 0} {d : Ghosts D} → Setting d W → (old new : Openings D)
+    → Result Driven JobFault → (found : Result (Equipped D d) JobFault) → Type 0
+DrivesEquipped set old new result (Ok it) = DrivesOpened set it old new result
+DrivesEquipped set old new result (Err fault) = (result ≡ Err fault) × (new ≡ old)
+
+-- a disk with its input was driven, with the history of the words, where they name one
+pub record DrivesJoined {D W : Type 0} {d : Ghosts D} (set : Setting d W) (start : Supplied D)
+    (old new : Openings D) (result : Result Driven JobFault) : Type 0 where
+  pub found : Result (Equipped D d) JobFault
+  pub asked : Openings D
+  pub equips : Equips d set.sources set.history start old asked found
+  pub drives : DrivesEquipped set asked new result found
 
 -- THE SCHEDULE
 
@@ -283,7 +371,7 @@ abbrev pub DrivesBehindNote : {D W : Type 0} {d : Ghosts D} → Setting d W → 
 DrivesBehindNote set start old new result (Err failed) =
     (result ≡ Err (job.Recover recover.Device))
     × (new ≡ with_both_closed old (file_of start.intake) start.disk)
-DrivesBehindNote set start old new result (Ok done) = DrivesOpened set start old new result
+DrivesBehindNote set start old new result (Ok done) = DrivesJoined set start old new result
 
 -- the schedule of the words was noted on a disk with its input, which was then driven
 pub record DrivesNoted {D W : Type 0} {d : Ghosts D} (set : Setting d W) (start : Supplied D)

@@ -1,6 +1,7 @@
 pub mod Addresses
 pub mod CoreFiles
 pub mod Driving
+pub mod Equipping
 pub mod Feeding
 pub mod Making
 pub mod Missing

@@ -1,34 +1,24 @@
 //! Driving a disk.
-ghost use Rattle.std.specs.Prelude.{◌≡◌, None, Some, is_some, true};
+ghost use Rattle.std.specs.Prelude.{◌≡◌, [], is_some, true};
 ghost use Rattle.ckrt_cli_words.specs.Jobs.{driving_of};
-ghost use Rattle.ckrt_cli_disk.specs.Driving.{DrivesFed, DrivesInto, DrivesNoted, DrivesOnto, DrivesOpened, DrivesOpenedOutput, DrivesPath, DrivesRecovered, DrivesSized, DrivesStream, DrivesWay, IsAsked, IsLent, IsUnwritten, answer_of, driven_of, means_of, offset_of, ready, setting_of, way_of};
+ghost use Rattle.ckrt_cli_disk.specs.Driving.{DrivesFed, DrivesInto, DrivesJoined, DrivesNoted, DrivesOnto, DrivesOpened, DrivesOpenedOutput, DrivesPath, DrivesRecovered, DrivesSized, DrivesStream, DrivesWay, IsAsked, IsLent, IsUnwritten, means_of, offset_of, ready, setting_of, way_of};
 ghost use Rattle.ckrt_cli_reports.specs.Ranges.{is_in_range};
 ghost use Rattle.ckrt_drive.specs.Streams.{HasSameWriter};
 
-use crate::address::fault_address;
-use crate::feeding::{Intake, Supplied, close_both, file_of, supply};
+use crate::equipping::{Beside, Equipped, Left, close_all, equip, left_of};
+use crate::feeding::{Supplied, close_both, file_of, supply};
 use crate::fitting::{asked_schedule, unfitness};
 use crate::missing::find_disk;
+use crate::undertaking::{Undertaken, answer_of, drive_session};
 use ckrt_cli_files::{JobFile, OpenedOutput, OutputReason, Sources};
 use ckrt_cli_reports::{DrivePaths, Driven, JobFault, Meter, OutputLengths, Watch, is_in_range};
 use ckrt_cli_words::DriveJob;
 use ckrt_disk::Disk;
-use ckrt_drive::{Drive, DriveFault, Feed, FromDisk, Nothing, Options, StreamOutput};
-use ckrt_machine::Machine;
+use ckrt_drive::{Options, StreamOutput};
 use ckrt_recovery::{RecoverFault, Session, recover};
-use ckrt_schedule::ScheduleEnd;
 use ckrt_stored::note_schedule;
 use std::alloc::Global;
 use std::io::{Read, Write};
-
-/// A session, its output and its input after a drive, and what it came to.
-#[derive(Drop)]
-pub(crate) struct Undertaken<D: Disk, O, F> {
-    pub(crate) session: Session<D>,
-    pub(crate) output: O,
-    pub(crate) input: F,
-    pub(crate) driven: Result<Driven, DriveFault>,
-}
 
 /// How the drive goes that the words ask for.
 fn options_of(job: &DriveJob<'_>) -> Options
@@ -51,6 +41,7 @@ fn watch_of<'a>(job: &DriveJob<'a>) -> Watch<'a>
       image = job.now.image;
       input = job.now.input;
       output = job.now.output;
+      history = job.now.history;
     } }
 {
     Watch {
@@ -61,126 +52,8 @@ fn watch_of<'a>(job: &DriveJob<'a>) -> Watch<'a>
             image: job.image,
             input: job.input,
             output: job.output,
+            history: job.history,
         },
-    }
-}
-
-/// What a drive came to where its run answered so, and the machine stands so.
-fn driven_of(
-    machine: &Machine,
-    answer: Result<Option<ScheduleEnd>, DriveFault>,
-) -> Result<Driven, DriveFault>
-    ensures { result ≡ driven_of machine.now.state answer }
-{
-    match answer {
-        Ok(ending) => Ok(Driven {
-            ending,
-            status: machine.status(),
-            address: fault_address(machine),
-        }),
-        Err(fault) => Err(fault),
-    }
-}
-
-/// Drives a session, with its output in a disk of its own and its input from a feed, of which the program has taken that many
-/// bytes.
-fn undertake<D: Disk, O: Disk, F: Feed, M: Meter>(
-    session: Session<D>,
-    output: O,
-    feed: F,
-    taken: u64,
-    options: Options,
-    meter: &mut M,
-) -> Undertaken<D, O, F>
-    ensures { DrivesWay O.Disk (record {
-      options = options;
-      IsRead = F.is_honest result.input;
-      file = F.file feed;
-      taken = taken;
-    })
-        session result.session output result.output result.driven }
-{
-    let mut drive = Drive::with_feed(session, output, options, feed, taken);
-    let answer = drive.run(u64::MAX, meter);
-    let driven = driven_of(drive.session().machine(), answer);
-    let (session, output, input) = drive.into_parts();
-    Undertaken {
-        session,
-        output,
-        input,
-        driven,
-    }
-}
-
-/// Drives a session without an input, with its output in a disk of its own.
-fn drive_unfed<D: Disk, O: Disk, M: Meter>(
-    session: Session<D>,
-    output: O,
-    options: Options,
-    meter: &mut M,
-) -> Undertaken<D, O, Option<D>>
-    ensures drives { DrivesWay O.Disk (way_of D.Disk options None result.input) session
-        result.session output result.output result.driven }
-    ensures unfed { result.input ≡ None }
-{
-    let undertaken = undertake(session, output, Nothing, 0, options, meter);
-    Undertaken {
-        session: undertaken.session,
-        output: undertaken.output,
-        input: None,
-        driven: undertaken.driven,
-    }
-}
-
-/// Drives a session with an input, and with its output in a disk of its own.
-fn drive_fed<D: Disk, O: Disk, M: Meter>(
-    session: Session<D>,
-    output: O,
-    intake: Intake<D>,
-    options: Options,
-    meter: &mut M,
-) -> Undertaken<D, O, Option<D>>
-    ensures drives { DrivesWay O.Disk (way_of D.Disk options (Some intake) result.input) session
-        result.session output result.output result.driven }
-    ensures fed { is_some result.input ≡ true }
-{
-    meter.fed(intake.taken);
-    let feed = FromDisk::new(intake.file);
-    let undertaken = undertake(session, output, feed, intake.taken, options, meter);
-    Undertaken {
-        session: undertaken.session,
-        output: undertaken.output,
-        input: Some(undertaken.input.into_disk()),
-        driven: undertaken.driven,
-    }
-}
-
-/// Drives a session, with an input, where there is one, and with its output in a disk of its own.
-fn drive_session<D: Disk, O: Disk, M: Meter>(
-    session: Session<D>,
-    output: O,
-    intake: Option<Intake<D>>,
-    options: Options,
-    meter: &mut M,
-) -> Undertaken<D, O, Option<D>>
-    ensures drives { DrivesWay O.Disk (way_of D.Disk options intake result.input) session
-        result.session output result.output result.driven }
-    ensures kept { is_some result.input ≡ is_some intake }
-{
-    match intake {
-        Some(intake) => drive_fed(session, output, intake, options, meter),
-        None => drive_unfed(session, output, options, meter),
-    }
-}
-
-/// What the job answers where its drive answered so. Of an output that failed it says why.
-fn answer_of(why: OutputReason, driven: Result<Driven, DriveFault>) -> Result<Driven, JobFault>
-    ensures { result ≡ answer_of why driven }
-{
-    match driven {
-        Ok(driven) => Ok(driven),
-        Err(DriveFault::Output) => Err(JobFault::OutputFailed(why)),
-        Err(fault) => Err(JobFault::Drive(fault)),
     }
 }
 
@@ -188,18 +61,23 @@ fn answer_of(why: OutputReason, driven: Result<Driven, DriveFault>) -> Result<Dr
 fn drive_onto<'a, I: Read, D: Disk, S: Sources<'a, I, D>, M: Meter>(
     session: Session<D>,
     output: D,
-    intake: Option<Intake<D>>,
+    beside: Beside<D>,
     options: Options,
     sources: &mut S,
     meter: &mut M,
 ) -> Result<Driven, JobFault>
-    ensures { DrivesOnto {d = D.Disk} options (ready session intake) output
+    requires { session.pending.items ≡ [] }
+    ensures { DrivesOnto {d = D.Disk} options (ready session beside) output
         (S.openings sources.old) (S.openings sources.new) result }
 {
-    let undertaken = drive_session(session, output, intake, options, meter);
+    let undertaken = drive_session(session, output, beside, options, meter);
     let why = sources.last_reason();
     sources.close_output(undertaken.output);
-    close_both::<D, S>(undertaken.session.into_disk(), undertaken.input, sources);
+    let left = Left {
+        input: undertaken.input,
+        history: undertaken.history,
+    };
+    close_all::<D, S>(undertaken.session.into_disk(), left, sources);
     answer_of(why, undertaken.driven)
 }
 
@@ -207,12 +85,13 @@ fn drive_onto<'a, I: Read, D: Disk, S: Sources<'a, I, D>, M: Meter>(
 fn drive_onto_opened<'a, I: Read, D: Disk, S: Sources<'a, I, D>, M: Meter>(
     session: Session<D>,
     opened: OpenedOutput<D>,
-    intake: Option<Intake<D>>,
+    beside: Beside<D>,
     options: Options,
     sources: &mut S,
     meter: &mut M,
 ) -> Result<Driven, JobFault>
-    ensures { DrivesOpenedOutput {d = D.Disk} opened options (ready session intake)
+    requires { session.pending.items ≡ [] }
+    ensures { DrivesOpenedOutput {d = D.Disk} opened options (ready session beside)
         (S.openings sources.old) (S.openings sources.new) result }
 {
     let lengths = OutputLengths {
@@ -221,10 +100,10 @@ fn drive_onto_opened<'a, I: Read, D: Disk, S: Sources<'a, I, D>, M: Meter>(
         released: session.released(),
     };
     if lengths.fits() {
-        return drive_onto::<I, D, S, M>(session, opened.output, intake, options, sources, meter);
+        return drive_onto::<I, D, S, M>(session, opened.output, beside, options, sources, meter);
     }
     sources.close_output(opened.output);
-    close_both::<D, S>(session.into_disk(), file_of(intake), sources);
+    close_all::<D, S>(session.into_disk(), left_of(beside), sources);
     Err(JobFault::OutputDiffers(lengths))
 }
 
@@ -232,20 +111,21 @@ fn drive_onto_opened<'a, I: Read, D: Disk, S: Sources<'a, I, D>, M: Meter>(
 fn drive_into_file<'a, I: Read, D: Disk, S: Sources<'a, I, D>, M: Meter>(
     session: Session<D>,
     path: &'a str,
-    intake: Option<Intake<D>>,
+    beside: Beside<D>,
     options: Options,
     sources: &mut S,
     meter: &mut M,
 ) -> Result<Driven, JobFault>
+    requires { session.pending.items ≡ [] }
     ensures { DrivesInto {d = D.Disk} ((S.gives sources.old).Outputs path.now) path.now options
-        (ready session intake) (S.openings sources.old) (S.openings sources.new) result }
+        (ready session beside) (S.openings sources.old) (S.openings sources.new) result }
 {
     match sources.open_output(path) {
         Ok(opened) => {
-            drive_onto_opened::<I, D, S, M>(session, opened, intake, options, sources, meter)
+            drive_onto_opened::<I, D, S, M>(session, opened, beside, options, sources, meter)
         }
         Err(fault) => {
-            close_both::<D, S>(session.into_disk(), file_of(intake), sources);
+            close_all::<D, S>(session.into_disk(), left_of(beside), sources);
             Err(JobFault::File(JobFile::Output, fault))
         }
     }
@@ -255,32 +135,35 @@ fn drive_into_file<'a, I: Read, D: Disk, S: Sources<'a, I, D>, M: Meter>(
 fn drive_streamed<'a, D: Disk, W: Write, M: Meter>(
     session: Session<D>,
     stream: StreamOutput<'a, W>,
-    intake: Option<Intake<D>>,
+    beside: Beside<D>,
     options: Options,
     meter: &mut M,
 ) -> Undertaken<D, StreamOutput<'a, W>, Option<D>>
+    requires { session.pending.items ≡ [] }
     ensures drives { DrivesWay ⟦<StreamOutput<'a, W> as Disk>⟧
-        (way_of D.Disk options intake result.input) session result.session stream.entry
-        result.output result.driven }
-    ensures kept { is_some result.input ≡ is_some intake }
+        (way_of D.Disk options beside
+        (record { input = result.input; history = result.history }))
+        session result.session stream.entry result.output result.driven }
+    ensures kept { is_some result.input ≡ is_some beside.intake }
     ensures lent { HasSameWriter stream.entry result.output }
 {
-    drive_session(session, stream, intake, options, meter)
+    drive_session(session, stream, beside, options, meter)
 }
 
 /// Drives a session, with its output on a writer but for the bytes below an offset, and closes disk and input.
 fn drive_onto_stream<'a, I: Read, D: Disk, S: Sources<'a, I, D>, W: Write + 'a, M: Meter>(
     session: Session<D>,
-    intake: Option<Intake<D>>,
+    beside: Beside<D>,
     job: &DriveJob<'a>,
     options: Options,
     sources: &mut S,
     writer: &mut W,
     meter: &mut M,
 ) -> Result<Driven, JobFault>
+    requires { session.pending.items ≡ [] }
     ensures { DrivesStream {d = D.Disk} (setting_of ⟦<StreamOutput<'a, W> as Disk>⟧
         (IsLent W.contents (W.contents writer.old) (W.contents writer.new)) (S.gives sources.old)
-        (driving_of job.now) options) (ready session intake) (S.openings sources.old)
+        (driving_of job.now) options) (ready session beside) (S.openings sources.old)
         (S.openings sources.new) result }
 {
     let stream = StreamOutput::new(writer, offset_of(job.from));
@@ -288,10 +171,11 @@ fn drive_onto_stream<'a, I: Read, D: Disk, S: Sources<'a, I, D>, W: Write + 'a, 
         session,
         output,
         input,
+        history,
         driven,
-    } = drive_streamed(session, stream, intake, options, meter);
+    } = drive_streamed(session, stream, beside, options, meter);
     let why = sources.last_reason();
-    close_both::<D, S>(session.into_disk(), input, sources);
+    close_all::<D, S>(session.into_disk(), Left { input, history }, sources);
     let writer = output.into_writer();
     // This does nothing at run time: clauses learn here what the writer holds once the stream has it no more.
     let _ = &*writer;
@@ -311,34 +195,35 @@ fn offset_of(from: Option<u64>) -> u64
 /// Drives a session, with its output in the job's file, or on the writer where the words name none.
 fn drive_recovered<'a, I: Read, D: Disk, S: Sources<'a, I, D>, W: Write + 'a, M: Meter>(
     session: Session<D>,
-    intake: Option<Intake<D>>,
+    beside: Beside<D>,
     job: &DriveJob<'a>,
     options: Options,
     sources: &mut S,
     writer: &mut W,
     meter: &mut M,
 ) -> Result<Driven, JobFault>
+    requires { session.pending.items ≡ [] }
     ensures drives { DrivesRecovered {d = D.Disk} (setting_of ⟦<StreamOutput<'a, W> as Disk>⟧
         (IsLent W.contents (W.contents writer.old) (W.contents writer.new)) (S.gives sources.old)
-        (driving_of job.now) options) (ready session intake) (S.openings sources.old)
+        (driving_of job.now) options) (ready session beside) (S.openings sources.old)
         (S.openings sources.new) result }
     ensures unwritten { IsUnwritten (driving_of job.now).output (W.contents writer.old)
         (W.contents writer.new) }
 {
     match job.output {
         Some(path) => {
-            drive_into_file::<I, D, S, M>(session, path, intake, options, sources, meter)
+            drive_into_file::<I, D, S, M>(session, path, beside, options, sources, meter)
         }
         None => drive_onto_stream::<I, D, S, W, M>(
-            session, intake, job, options, sources, writer, meter,
+            session, beside, job, options, sources, writer, meter,
         ),
     }
 }
 
-/// Recovers a disk that was opened, and drives it, with its input, where there is one.
+/// Recovers a disk, and drives it, with what it has beside it.
 fn drive_opened<'a, I: Read, D: Disk, S: Sources<'a, I, D>, W: Write + 'a, M: Meter>(
     alloc: Global,
-    supplied: Supplied<D>,
+    equipped: Equipped<D>,
     job: &DriveJob<'a>,
     options: Options,
     sources: &mut S,
@@ -347,21 +232,42 @@ fn drive_opened<'a, I: Read, D: Disk, S: Sources<'a, I, D>, W: Write + 'a, M: Me
 ) -> Result<Driven, JobFault>
     ensures drives { DrivesOpened {d = D.Disk} (setting_of ⟦<StreamOutput<'a, W> as Disk>⟧
         (IsLent W.contents (W.contents writer.old) (W.contents writer.new)) (S.gives sources.old)
+        (driving_of job.now) options) equipped (S.openings sources.old) (S.openings sources.new)
+        result }
+    ensures unwritten { IsUnwritten (driving_of job.now).output (W.contents writer.old)
+        (W.contents writer.new) }
+{
+    let Equipped { disk, beside } = equipped;
+    match recover(alloc, disk) {
+        Ok(session) => drive_recovered::<I, D, S, W, M>(
+            session, beside, job, options, sources, writer, meter,
+        ),
+        Err(unrecovered) => {
+            close_all::<D, S>(unrecovered.disk, left_of(beside), sources);
+            Err(JobFault::Recover(unrecovered.fault))
+        }
+    }
+}
+
+/// Drives a disk with its input, and with the history of the words, where they name one.
+fn drive_joined<'a, I: Read, D: Disk, S: Sources<'a, I, D>, W: Write + 'a, M: Meter>(
+    alloc: Global,
+    supplied: Supplied<D>,
+    job: &DriveJob<'a>,
+    options: Options,
+    sources: &mut S,
+    writer: &mut W,
+    meter: &mut M,
+) -> Result<Driven, JobFault>
+    ensures drives { DrivesJoined {d = D.Disk} (setting_of ⟦<StreamOutput<'a, W> as Disk>⟧
+        (IsLent W.contents (W.contents writer.old) (W.contents writer.new)) (S.gives sources.old)
         (driving_of job.now) options) supplied (S.openings sources.old) (S.openings sources.new)
         result }
     ensures unwritten { IsUnwritten (driving_of job.now).output (W.contents writer.old)
         (W.contents writer.new) }
 {
-    let Supplied { disk, intake } = supplied;
-    match recover(alloc, disk) {
-        Ok(session) => drive_recovered::<I, D, S, W, M>(
-            session, intake, job, options, sources, writer, meter,
-        ),
-        Err(unrecovered) => {
-            close_both::<D, S>(unrecovered.disk, file_of(intake), sources);
-            Err(JobFault::Recover(unrecovered.fault))
-        }
-    }
+    let equipped = equip::<I, D, S>(alloc, supplied, job, sources)?;
+    drive_opened::<I, D, S, W, M>(alloc, equipped, job, options, sources, writer, meter)
 }
 
 /// Notes the schedule of the words on a disk with its input, and drives it.
@@ -387,7 +293,7 @@ fn drive_noted<'a, I: Read, D: Disk, S: Sources<'a, I, D>, W: Write + 'a, M: Met
     match note_schedule(&mut disk, &asked_schedule(job)) {
         Ok(()) => {
             let noted = Supplied { disk, intake };
-            drive_opened::<I, D, S, W, M>(alloc, noted, job, options, sources, writer, meter)
+            drive_joined::<I, D, S, W, M>(alloc, noted, job, options, sources, writer, meter)
         }
         Err(_) => {
             close_both::<D, S>(disk, file_of(intake), sources);
@@ -462,7 +368,8 @@ fn drive_sized<'a, I: Read, D: Disk, S: Sources<'a, I, D>, W: Write + 'a, M: Met
 /// The first that applies: `Range`, before anything is opened; `File` of the disk, or what making it answers; where it is there,
 /// what the image's fault is, and `ImageDiffers`, both before a byte of the disk is changed; `BadConfig` where
 /// it has other sizes than those of the words, and `ScheduleDiffers` where it notes another schedule, and the words don't say that this is meant;
-/// what the input's fault is, before a byte of the disk is changed; `Recover`, before the output is asked for, once the schedule is noted;
+/// what the input's fault is, before a byte of the disk is changed; once the schedule is noted what the history's fault is, where the words
+/// name one; `Recover`, before the output is asked for;
 /// `File` of the output; then what the drive answers.
 pub fn drive_path<'a, I: Read + Drop, D: Disk, S: Sources<'a, I, D>, W: Write + 'a, M: Meter>(
     alloc: Global,

@@ -56,6 +56,11 @@
 //! end. Where the input can't be used both are closed as they were, and no output is asked for. Without an input the steps are
 //! supplied from none.
 //!
+//! Proved of the history of a drive: it is asked for once the schedule is noted, and before the disk is recovered. It gets what it lacks of the
+//! disk as `open_kept` of `ckrt_history` says; the disk is synced for that, and else only read. Where the history can't be had all are closed, and
+//! no output is asked for. The drive is one of its own, step by step, and after each step the history has what the disk has, as `ckrt_history` says.
+//! Where the history fails the drive has made some of its steps, and all are closed as these left them. Without a history none is asked for.
+//!
 //! A law: a byte that was printed at an offset is never another, over any number of runs of a disk
 //! ([`printed_bytes_stay`]).
 //!
@@ -65,6 +70,7 @@
 mod address;
 mod core_file;
 mod driving;
+mod equipping;
 mod feeding;
 mod fitting;
 mod image;
@@ -75,9 +81,11 @@ mod program;
 mod running;
 mod showing;
 mod sizes;
+mod undertaking;
 
 pub use core_file::core_path;
 pub use driving::drive_path;
+pub use equipping::{Beside, Left, fault_of};
 pub use feeding::Intake;
 pub use laws::printed_bytes_stay;
 pub use making::{fitting_image, make_disk};

@@ -6,11 +6,13 @@ use Rattle.ckrt_disk.specs.declared.disk.DeviceFault.{DeviceFault}
 use Rattle.ckrt_disk.specs.declared.disk.Disk.{Ghosts}
 use Rattle.std.specs.Prelude.{is_err, is_some}
 use Rattle.ckrt_drive.specs.declared.options.Options.{Options}
-use Rattle.ckrt_cli_disk.specs.Driving.{DrivesBehindNote, DrivesFound, DrivesInRange, DrivesInto, DrivesLooked, DrivesOpened, DrivesOpenedOutput, DrivesPath, DrivesSupplied, DrivesToward, IsAsked, Means, ready}
+use Rattle.ckrt_cli_disk.specs.Driving.{DrivesBehindNote, DrivesEquipped, DrivesFound, DrivesInRange, DrivesInto, DrivesLooked, DrivesOpened, DrivesOpenedOutput, DrivesPath, DrivesSupplied, DrivesToward, IsAsked, Means, ready}
 use Rattle.ckrt_recovery.specs.Recovered.{IsRecovered}
+use Rattle.ckrt_cli_disk.specs.Equipping.{Equips, with_left_closed}
 use Rattle.ckrt_cli_disk.specs.Feeding.{Supplies}
 use Rattle.ckrt_cli_disk.specs.Missing.{FindsDisk}
 use Rattle.ckrt_cli_disk.specs.Noting.{Notes, asked_schedule}
+use Rattle.ckrt_cli_disk.specs.declared.equipping.Equipped.{Equipped}
 use Rattle.ckrt_cli_disk.specs.declared.feeding.Supplied.{Supplied}
 use Rattle.ckrt_cli_reports.specs.Outside.{Outside}
 use Rattle.ckrt_cli_reports.specs.Ranges.{config_for, is_in_range}
@@ -19,12 +21,12 @@ use Rattle.ckrt_cli_reports.specs.declared.driven.Driven.{Driven}
 use Rattle.ckrt_cli_reports.specs.declared.fault.JobFault.{JobFault}
 use Rattle.ckrt_cli.specs.Performing.{Reach, RunsRequest, RunsWords, Said, means_in, outcome_with_end}
 use Rattle.ckrt_recovery.specs.declared.session.Session.{Session}
-use Rattle.ckrt_cli_files.specs.Openings.{Openings, opened, with_both_closed, with_closed_output, with_output}
+use Rattle.ckrt_cli_files.specs.Openings.{Openings, opened, with_closed_output, with_output}
 use Rattle.ckrt_cli_files.specs.declared.output.OpenedOutput.{OpenedOutput}
 use Rattle.ckrt_cli_words.specs.Jobs.{Driving, drive, request_of_words}
 use Rattle.ckrt_cli_words.specs.declared.job.WordsFault.{WordsFault}
 use Rattle.ckrt_cli_words.specs.declared.job.WordsFault.TheVariants as words
-use Rattle.ckrt_cli.specs.Coming.{Came, Fed, Sized, in_range, noted, of_fed, of_found, of_looked, of_noted, of_path, of_sized, onto_fitting, onto_opened, set}
+use Rattle.ckrt_cli.specs.Coming.{Came, Fed, Furnished, Sized, in_range, noted, of_fed, of_found, of_furnished, of_looked, of_noted, of_path, of_sized, onto_fitting, onto_opened, set}
 use Rattle.ckrt_cli.specs.Commands.{asked_or, of_request, of_words}
 
 module _ {D W : Type 0} {d : Ghosts D} (means : Means d W) (j : Driving) where
@@ -35,8 +37,8 @@ module _ {D W : Type 0} {d : Ghosts D} (means : Means d W) (j : Driving) where
   pub record Facts (path : List ℕ) (new : Openings D) (came : Came d means.sources j path) : Type 0 where
     pub finds : Finds came.found
     pub asked : Openings D
-    pub closes : new ≡ with_both_closed (with_closed_output asked came.run.end) came.run.input came.run.after.disk
-    pub kept : is_some came.run.input ≡ is_some came.run.intake
+    pub closes : new ≡ with_left_closed (with_closed_output asked came.run.end) came.run.left came.run.after.disk
+    pub kept : is_some came.run.left.input ≡ is_some came.run.beside.intake
 
   module _ (path : List ℕ) (named : j.output ≡ Some path) (result : Result Driven JobFault) (new : Openings D) where
     -- there is a drive, or the job failed
@@ -44,26 +46,32 @@ module _ {D W : Type 0} {d : Ghosts D} (means : Means d W) (j : Driving) where
     Says None = (fault : JobFault) × (result ≡ Err fault)
     Says (Some came) = Facts path new came
 
-    by_fitting : (fed : Fed d means.sources j) → Finds fed.sized.found → (session : Session D d) → (recovered : IsRecovered d fed.disk session) → (output : OpenedOutput D) → (is_opened : means.sources.Outputs path output)
-        → (drives : DrivesOpenedOutput output fed.sized.options (ready session fed.it.intake) (with_output fed.asked (opened path)) new result)
-        → Says (onto_fitting means j path named result fed new session recovered output is_opened drives)
-    by_fitting fed finds session recovered output is_opened (inl refuses) = (_, refuses.is)
-    by_fitting fed finds session recovered output is_opened (inr takes) = record { finds = finds; asked = with_output fed.asked (opened path); closes = takes.drives.closes; kept = takes.drives.kept }
+    by_fitting : (there : Furnished d means.sources j) → Finds there.fed.sized.found → (session : Session D d) → (recovered : IsRecovered d there.it.disk session) → (output : OpenedOutput D) → (is_opened : means.sources.Outputs path output)
+        → (drives : DrivesOpenedOutput output there.fed.sized.options (ready session there.it.beside) (with_output there.joined (opened path)) new result)
+        → Says (onto_fitting means j path named result there new session recovered output is_opened drives)
+    by_fitting there finds session recovered output is_opened (inl refuses) = (_, refuses.is)
+    by_fitting there finds session recovered output is_opened (inr takes) = record { finds = finds; asked = with_output there.joined (opened path); closes = takes.drives.closes; kept = takes.drives.kept }
 
-    by_output : (fed : Fed d means.sources j) → Finds fed.sized.found → (session : Session D d) → (recovered : IsRecovered d fed.disk session)
-        → (drives : DrivesInto (means.sources.Outputs path) path fed.sized.options (ready session fed.it.intake) fed.asked new result)
-        → Says (onto_opened means j path named result fed new session recovered drives)
-    by_output fed finds session recovered (inl lacks) = (_, lacks.is)
-    by_output fed finds session recovered (inr opens) = by_fitting fed finds session recovered opens.output opens.is_opened opens.drives
+    by_output : (there : Furnished d means.sources j) → Finds there.fed.sized.found → (session : Session D d) → (recovered : IsRecovered d there.it.disk session)
+        → (drives : DrivesInto (means.sources.Outputs path) path there.fed.sized.options (ready session there.it.beside) there.joined new result)
+        → Says (onto_opened means j path named result there new session recovered drives)
+    by_output there finds session recovered (inl lacks) = (_, lacks.is)
+    by_output there finds session recovered (inr opens) = by_fitting there finds session recovered opens.output opens.is_opened opens.drives
 
-    by_fed : (fed : Fed d means.sources j) → Finds fed.sized.found → (drives : DrivesOpened (set means j path named result fed.sized.options) (noted fed) fed.asked new result) → Says (of_fed means j path named result fed new drives)
-    by_fed fed finds (inl lacks) = (_, lacks.is)
-    by_fed fed finds (inr drives) =
-        by_output fed finds drives.session drives.recovered
+    by_furnished : (there : Furnished d means.sources j) → Finds there.fed.sized.found → (drives : DrivesOpened (set means j path named result there.fed.sized.options) there.it there.joined new result) → Says (of_furnished means j path named result there new drives)
+    by_furnished there finds (inl lacks) = (_, lacks.is)
+    by_furnished there finds (inr drives) =
+        by_output there finds drives.session drives.recovered
         (subst
-        (DrivesToward (set means j path named result fed.sized.options) (ready drives.session fed.it.intake) fed.asked new
+        (DrivesToward (set means j path named result there.fed.sized.options) (ready drives.session there.it.beside) there.joined new
         result)
         named drives.drives)
+
+    by_fed : (fed : Fed d means.sources j) → Finds fed.sized.found → (joined : Openings D) → (found : Result (Equipped D d) JobFault) → (equips : Equips d means.sources j.history (noted fed) fed.asked joined found)
+        → (ends : DrivesEquipped (set means j path named result fed.sized.options) joined new result found)
+        → Says (of_fed means j path named result fed joined new found equips ends)
+    by_fed fed finds joined (Err fault) equips ends = (_, ends.0)
+    by_fed fed finds joined (Ok it) equips ends = by_furnished (record { fed = fed; joined = joined; it = it; equips = equips }) finds ends
 
     by_noted : (sized : Sized d j) → Finds sized.found → (before asked : Openings D) → (it : Supplied D) → (supplies : Supplies d means.sources j.input j.input_from sized.looked before asked (Ok it))
         → (disk : D) → (answer : Result (Unit {0}) DeviceFault) → (notes : Notes d (asked_schedule j) it.disk disk answer)
@@ -71,7 +79,7 @@ module _ {D W : Type 0} {d : Ghosts D} (means : Means d W) (j : Driving) where
         → Says (of_noted means j path named result sized before asked new it supplies disk answer notes ends)
     by_noted sized finds before asked it supplies disk (Err failed) notes ends = (_, ends.0)
     by_noted sized finds before asked it supplies disk (Ok done) notes ends =
-        by_fed (record { sized = sized; before = before; asked = asked; it = it; supplies = supplies; disk = disk; notes = notes }) finds ends
+        by_fed (record { sized = sized; before = before; asked = asked; it = it; supplies = supplies; disk = disk; notes = notes }) finds ends.asked ends.found ends.equips ends.drives
 
     by_sized : (sized : Sized d j) → Finds sized.found → (before asked : Openings D) → (got : Result (Supplied D) JobFault)
         → (supplies : Supplies d means.sources j.input j.input_from sized.looked before asked got)

@@ -1,5 +1,5 @@
 -- A drive that came to its end, as a run of the program.
-use Rattle.std.proofs.Common.{◌≡◌, ◌<◌, ◌^◌, ◌-◌, ℕ, true, [], Some, Ok, refl}
+use Rattle.std.proofs.Common.{◌≡◌, ◌<◌, ◌^◌, ◌-◌, ℕ, true, [], Some, None, Ok, refl}
 use Rattle.ckrt_disk.specs.declared.disk.Disk.{Ghosts}
 use Rattle.ckrt_drive.specs.Runs.{Runs}
 use Rattle.ckrt_drive.specs.Stages.{GoesBySteps, IsOver, stage}
@@ -23,14 +23,27 @@ module _ {D O : Type 0} (d : Ghosts D) (o : Ghosts O) (disk input input_end : D)
     run = record {
       start = disk;
       options = options;
-      intake = Some (record { file = input; taken = 0 });
-      input = Some input_end;
+      beside = record { intake = Some (record { file = input; taken = 0 }); history = None };
+      left = record { input = Some input_end; history = None };
       before = s;
       after = t;
       output = a;
       end = b;
       answer = driven_of t.progress.machine.state (Ok (Some ending));
-      drives = record { ran = Ok (Some ending); left = left; taken = taken; runs = runs; by_steps = by_steps; over = over; gives = refl; output = tt };
+      drives = record {
+        ran = Ok (Some ending);
+        steps = 2 ^ 64 - 1;
+        told = Ok (Some ending);
+        tells = (refl, refl);
+        left = left;
+        taken = taken;
+        runs = runs;
+        by_steps = by_steps;
+        over = over;
+        gets = (refl, tt);
+        gives = refl;
+        output = tt;
+      };
     };
     fed = refl;
     honest = honest;

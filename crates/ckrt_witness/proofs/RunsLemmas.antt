@@ -5,7 +5,8 @@ use Rattle.ckrt_disk.specs.Disk.{IsImage}
 use Rattle.ckrt_disk.specs.declared.disk.Disk.{Ghosts}
 use Rattle.ckrt_drive.specs.Stages.{stage}
 use Rattle.ckrt_drive.specs.declared.options.Options.{Options}
-use Rattle.ckrt_cli_disk.specs.Driving.{Means, way_of}
+use Rattle.ckrt_history.specs.declared.kept.KeptHistory.{KeptHistory}
+use Rattle.ckrt_cli_disk.specs.Driving.{Means, unfed, with_intake}
 use Rattle.ckrt_cli_disk.specs.Feeding.{EndsWithRoom, Supplies, SuppliesOpened, SuppliesRoomy, SuppliesTaken}
 use Rattle.ckrt_cli_disk.specs.Missing.{MakesMissing}
 use Rattle.ckrt_cli_disk.specs.Programs.{Compares}
@@ -16,7 +17,7 @@ use Rattle.ckrt_cli_reports.specs.Ranges.{config_for}
 use Rattle.ckrt_cli_reports.specs.declared.fault.JobFault.{JobFault}
 use Rattle.ckrt_cli.specs.Performing.{Reach, means_in}
 use Rattle.ckrt_schedule.specs.declared.schedule.Schedule.{Schedule}
-use Rattle.ckrt_cli_files.specs.Openings.{Openings, opened, with_disk, with_closed_input, with_closed_output, with_input}
+use Rattle.ckrt_cli_files.specs.Openings.{Openings, opened, with_disk, with_closed_history, with_closed_input, with_closed_output, with_input}
 use Rattle.ckrt_cli_files.specs.Sources.{Gives}
 use Rattle.ckrt_stored.specs.Programs.{Program, RecoversToStart}
 use Rattle.ckrt_stored.specs.declared.fault.RecoverFault.{RecoverFault}
@@ -24,6 +25,7 @@ use Rattle.ckrt_cli_words.specs.Jobs.{Driving}
 use Rattle.ckrt_drive_theorem.specs.Together.{IsLeftSince}
 use Rattle.ckrt_cli.specs.Coming.{Came}
 use Rattle.ckrt_cli.specs.Commands.{Leaves, Paths, Run, drive_in, of_words}
+use Rattle.ckrt_cli.proofs.JoinedLemmas.{joins}
 use Rattle.ckrt_cli.specs.Promise.{Common, Drove, IsKept, as_drive, drove}
 use Rattle.ckrt_witness.specs.Runs.{AsksDrive, CameToDrive, Ran, RanTwice, RunsWitness}
 use Rattle.ckrt_witness.proofs.CameLemmas.{Facts, Finds, came_by_words}
@@ -35,6 +37,10 @@ no_more x xs ys same more = omega (arith, ap length (sym same ∙ more))
 closed_before : {D : Type 0} (o : Openings D) (input : Option D) → (with_closed_input o input).closed_output ≡ o.closed_output
 closed_before o None = refl
 closed_before o (Some input) = refl
+
+history_before : {D : Type 0} (o : Openings D) (history : Option D) → (with_closed_history o history).closed_output ≡ o.closed_output
+history_before o None = refl
+history_before o (Some history) = refl
 
 -- ITS INPUT
 
@@ -85,15 +91,16 @@ module _ {D : Type 0} (d : Ghosts D) (gives : Gives D) (name : List ℕ) (none :
       by_taken s there.disk before asked there.taken there.ends
 
 -- how it was read
-was_read : {D : Type 0} (d : Ghosts D) (honest : (x : D) → d.is_honest x) (options : Options) (intake : Option (Intake D)) (input : Option D) → (way_of d options intake input).IsRead
-was_read d honest options None input = tt
-was_read d honest options (Some it) None = tt
-was_read d honest options (Some it) (Some end) = honest end
+was_read : {D : Type 0} (d : Ghosts D) (honest : (x : D) → d.is_honest x) (options : Options) (history : Option (KeptHistory D d)) (kept : Option D) (intake : Option (Intake D)) (input : Option D) → (with_intake d (unfed options history kept) intake input).IsRead
+was_read d honest options history kept None input = tt
+was_read d honest options history kept (Some it) None = tt
+was_read d honest options history kept (Some it) (Some end) = honest end
 
-its_file : {D : Type 0} (d : Ghosts D) (options : Options) (it : Intake D) (intake : Option (Intake D)) (input : Option D) → intake ≡ Some it → is_some input ≡ is_some intake → (way_of d options intake input).file ≡ Some (d.content it.file)
-its_file {D = D} d options it None input is kept = absurd (cc)
-its_file {D = D} d options it (Some other) None is kept = absurd (cc)
-its_file {D = D} d options it (Some other) (Some end) is kept = let same : other ≡ it = cc in ap (λ (q : Intake D). Some (d.content q.file)) same
+its_file : {D : Type 0} (d : Ghosts D) (options : Options) (history : Option (KeptHistory D d)) (kept : Option D) (it : Intake D) (intake : Option (Intake D)) (input : Option D) → intake ≡ Some it → is_some input ≡ is_some intake
+    → (with_intake d (unfed options history kept) intake input).file ≡ Some (d.content it.file)
+its_file {D = D} d options history kept it None input is same_kind = absurd (cc)
+its_file {D = D} d options history kept it (Some other) None is same_kind = absurd (cc)
+its_file {D = D} d options history kept it (Some other) (Some end) is same_kind = let same : other ≡ it = cc in ap (λ (q : Intake D). Some (d.content q.file)) same
 
 -- ITS DISK
 
@@ -169,21 +176,24 @@ module _ {S D W : Type 0} {d : Ghosts D} (reach : S → Reach d W) (words : List
     its_output : came_here.0.run.end ≡ left
     its_output =
         let f = came_here.2 in
-        let both = sym (ap (λ (o : Openings D). o.closed_output) f.closes ∙ closed_before (with_closed_output f.asked came_here.0.run.end) came_here.0.run.input) ∙ ran.closed_output.1 in
+        let r = came_here.0.run in
+        let asked_for = with_closed_output f.asked r.end in
+        let both = sym (ap (λ (o : Openings D). o.closed_output) f.closes ∙ (closed_before (with_closed_history asked_for r.left.history) r.left.input ∙ history_before asked_for r.left.history)) ∙ ran.closed_output.1 in
         cc
 
     keeps : IsKept c disk output x
     keeps =
         let f = came_here.2 in
         let r = came_here.0.run in
-        let i = has_input d it.others asked.input ran.gives.longer (record { disk = came_here.0.supplied; intake = r.intake }) j.input asked.with_input j.input_from came_here.0.looked came_here.0.before came_here.0.asked came_here.0.supplies in
+        let i = has_input d it.others asked.input ran.gives.longer (record { disk = came_here.0.supplied; intake = came_here.0.intake }) j.input asked.with_input j.input_from came_here.0.looked came_here.0.before came_here.0.asked came_here.0.supplies in
+        let had = joins d it.others (record { disk = came_here.0.noted; intake = came_here.0.intake }) (record { disk = r.start; beside = r.beside }) j.history came_here.0.asked came_here.0.joined came_here.0.equips in
         record {
           found_disk = found_there (means_in it ran.old ran.new j) j disk (ran.gives.disks j.disk) (ran.gives.fills j.disk _) came_here.0.found asked.without_image f.finds;
           found_output = came_here.0.onto ∙ ran.gives.outputs asked.output came_here.0.output came_here.0.is_opened;
           disk_honest = honest r.after.disk;
           output_honest = honest r.end;
-          input_honest = was_read d honest r.options r.intake r.input;
-          same_input = its_file d r.options i.intake r.intake r.input i.is f.kept ∙ ap Some (ran.gives.inputs asked.input i.intake.file i.given);
+          input_honest = was_read d honest r.options r.beside.history r.left.history r.beside.intake r.left.input;
+          same_input = its_file d r.options r.beside.history r.left.history i.intake r.beside.intake r.left.input (had.same_intake ∙ i.is) f.kept ∙ ap Some (ran.gives.inputs asked.input i.intake.file i.given);
           longer = λ looked more. absurd (i.short looked more);
         }
 

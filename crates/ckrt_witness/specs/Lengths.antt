@@ -12,7 +12,7 @@ use Rattle.ckrt_cli.specs.Runs.{ProgramRun}
 -- A run with an input that came to its end, where all is saved. The file of its output had a length that fitted its disk, and has more bytes then.
 pub record LengthWitness {D O : Type 0} (d : Ghosts D) (o : Ghosts O) (size : ℕ) : Type 0 where
   pub run : ProgramRun d o
-  pub fed : is_some run.input ≡ true
+  pub fed : is_some run.left.input ≡ true
   pub honest : d.is_honest run.after.disk
   pub program : Program
   pub events : List Event

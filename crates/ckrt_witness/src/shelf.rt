@@ -34,6 +34,8 @@ pub struct Shelf<'a> {
     named: History<StoppingDisk>,
     closed_before: History<StoppingDisk>,
     closed_output_before: History<StoppingDisk>,
+    histories: History<Noted<'a>>,
+    closed_history: History<StoppingDisk>,
     closed_input: History<StoppingDisk>,
     lengthened: History<StoppingDisk>,
     abandoned: History<StoppingDisk>,
@@ -62,6 +64,8 @@ impl<'a> Shelf<'a> {
             named: History::new(),
             closed_before: History::new(),
             closed_output_before: History::new(),
+            histories: History::new(),
+            closed_history: History::new(),
             closed_input: History::new(),
             lengthened: History::new(),
             abandoned: History::new(),
@@ -125,6 +129,10 @@ impl<'a> Closes<StoppingDisk> for Shelf<'a> {
             }
             None => {}
         }
+    }
+
+    fn close_history(&mut self, history: StoppingDisk) {
+        self.closed_history = self.closed_history.with(&history);
     }
 
     fn close_input(&mut self, input: StoppingDisk) {
@@ -239,7 +247,7 @@ impl<'a> Sources<'a, &'a [u8], StoppingDisk> for Shelf<'a> {
     }
 
     fn open_history(&mut self, path: &'a str) -> Result<OpenedOutput<StoppingDisk>, FileFault> {
-        self.outputs = self.outputs.with(&Noted::Refused(path, FileFault::InUse));
+        self.histories = self.histories.with(&Noted::Refused(path, FileFault::InUse));
         Err(FileFault::InUse)
     }
 

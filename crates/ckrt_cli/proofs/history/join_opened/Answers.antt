@@ -12,6 +12,6 @@ returns g c = record {
     is_output = refl;
     end = both c.join-found.new.disk c.join-found.new.history;
     joins = c.join-found.ensures.joins;
-    closes = c.close.ensures.closed ∙ ap (λ o. with_closed o c.join-found.new.disk) c.close_output.ensures.closed;
+    closes = c.close.ensures.closed ∙ ap (λ o. with_closed o c.join-found.new.disk) c.close_history.ensures.closed;
   };
 }

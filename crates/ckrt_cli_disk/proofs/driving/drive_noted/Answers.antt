@@ -13,7 +13,7 @@ returns-in-Ok-clause-drives g c =
         within = e.within;
         noted = rw c.asked_schedule.ensures at e.noted;
       };
-      drives = c.drive_opened.ensures.drives;
+      drives = c.drive_joined.ensures.drives;
     }
 
 -- where that failed all were closed as they were

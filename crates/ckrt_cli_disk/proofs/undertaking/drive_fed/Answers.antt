@@ -1,4 +1,4 @@
-use Rattle.ckrt_cli_disk.proofs.driving.drive_fed.Goals as goal
+use Rattle.ckrt_cli_disk.proofs.undertaking.drive_fed.Goals as goal
 
 -- the feed is the input's file, and leaves it as it is
 pub returns-clause-drives : goal.returns-clause-drives
