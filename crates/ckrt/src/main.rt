@@ -72,6 +72,14 @@ fn names_of_kept(rt: &HostRuntime, task: Task<'_, '_>, printed: &Names) -> Names
     }
 }
 
+/// The path of the file that a job puts output in, where it does.
+fn output_of<'a>(job: Option<&Job<'a>>) -> Option<&'a str> {
+    match job {
+        Some(Job::Drive(job)) => job.output,
+        _ => None,
+    }
+}
+
 /// The job of these words on the standard streams; the answer is the program's status.
 fn run<'a>(
     rt: &'a HostRuntime,
@@ -87,7 +95,7 @@ fn run<'a>(
     let named = NamedWriter::in_form(rt.alloc(), printed, form, told);
     let mut writer = KeptWriter::new(rt, task.why, again, named);
     let mut reporter = WrittenReport::new(room);
-    let sources = SystemSources::new(rt, task.why, Calls::new());
+    let sources = SystemSources::new(rt, task.why, Calls::new()).with_output(output_of(task.job));
     let status = run_words::<HostRuntime, Brand, _, _, _, _>(
         rt.alloc(),
         task.words,

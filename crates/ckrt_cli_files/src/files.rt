@@ -7,6 +7,7 @@ ghost use Rattle.ckrt_cli_files.specs.Streams.{IsBesideStreams};
 
 use crate::file::{FileFault, MAKING};
 use crate::growing::GrowingFile;
+use crate::identity::{FileId, leads_to};
 use crate::leftover::{FileKind, is_blank, kind_of, look_at_leftover};
 use crate::output::OpenedOutput;
 use crate::reason::OutputReason;
@@ -471,16 +472,31 @@ fn fill_front(file: &File) -> Result<(), FileFault> {
     Ok(())
 }
 
-/// The file of the history of a path.
+/// That a file isn't the one that the path of an output leads to. It is open by then, so whatever leads there is found.
+fn is_beside_output<R: Files>(rt: &R, file: &File, output: Option<&str>) -> Result<(), FileFault> {
+    let Some(output) = output else {
+        return Ok(());
+    };
+    let told = file.metadata()?;
+    if leads_to(rt, output, Some(FileId::of(&told))) {
+        return Err(FileFault::IsOutput);
+    }
+    Ok(())
+}
+
+/// The file of the history of a path, which isn't the output's. Where it was made for that and is refused it's removed.
 pub(crate) fn open_system_history<'a, R: Files<File = File>, H: Holds>(
     rt: &R,
     path: &str,
+    output: Option<&str>,
     opened: Calls<FileUse>,
     why: &'a Cell<OutputReason>,
 ) -> Result<OpenedOutput<RealDisk<'a, H>>, FileFault>
     ensures { IfOk result (IsFreshOutput ⟦<RealDisk<'a, H> as Disk>⟧ opened.made) }
 {
     let claimed = open_or_make(rt, path)?;
+    let beside = is_beside_output(rt, &claimed.file, output);
+    let claimed = keep(rt, path, claimed, beside)?;
     fill_front(&claimed.file)?;
     output_of(claimed.file, opened, why)
 }

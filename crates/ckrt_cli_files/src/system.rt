@@ -77,6 +77,8 @@ pub struct SystemSources<'a, R, D> {
     input_id: Option<FileId>,
     /// And which one the history is.
     history_id: Option<FileId>,
+    /// The path that the output will have, if one will.
+    output_path: Option<&'a str>,
     /// The file that was made for a disk that isn't formatted yet, or for a core that isn't written.
     made: Option<MadeFile<'a>>,
 }
@@ -116,6 +118,7 @@ impl<'a, R, D> SystemSources<'a, R, D> {
             disk_file: None,
             input_id: None,
             history_id: None,
+            output_path: None,
             made: None,
         }
     }
@@ -133,6 +136,15 @@ impl<'a, R, D> SystemSources<'a, R, D> {
             Some(words) => Some((alloc, words)),
             None => None,
         };
+        self
+    }
+
+    /// The same files, of which no history is begun in the output of this path, if there is one.
+    pub fn with_output(mut self, path: Option<&'a str>) -> SystemSources<'a, R, D>
+        ensures openings { openings_of result ≡ openings_of self.entry }
+        ensures opened { opened_by result ≡ opened_by self.entry }
+    {
+        self.output_path = path;
         self
     }
 }
@@ -355,14 +367,14 @@ impl<'a, R: Files<File = File>, H: Holds> SystemSources<'a, R, RealDisk<'a, H>> 
         open_system_output(self.rt, path, opened, self.why)
     }
 
-    /// The file of the history of a path, which is remembered. The image, the disk and the input are never taken for it.
+    /// The file of the history of a path, which is remembered. The image, the disk, the input and the output are never taken for it.
     fn open_history_file(&mut self, path: &str) -> Result<OpenedOutput<RealDisk<'a, H>>, FileFault>
         ensures openings { openings_of self.new ≡ openings_of self.old }
         ensures output { IfOk result (IsOutputOf ⟦<RealDisk<'a, H> as Disk>⟧ path.now) }
     {
         self.taken_for(path)?;
         let opened = self.note(FileUse::Output, path);
-        let history = open_system_history(self.rt, path, opened, self.why)?;
+        let history = open_system_history(self.rt, path, self.output_path, opened, self.why)?;
         self.history_id = FileId::at(self.rt, path);
         Ok(history)
     }
