@@ -1,4 +1,4 @@
-use Rattle.std.proofs.Common.{inl, inr}
+use Rattle.std.proofs.Common.{inr}
 use Rattle.ckrt_cli_disk.proofs.equipping.with_history.Goals as goal
 
 -- the file that was opened is the one that has the history
