@@ -8,8 +8,10 @@
 //! default. Usage is never answered for no words, nor for words that `clap` takes, but for `profile` with both of its forms. The file of names is the value of `--names`. The texts on usage are tested only.
 #![tactic(auto)]
 
+mod argument;
 mod command;
 mod job;
+mod looking;
 mod matches;
 mod read;
 
