@@ -105,27 +105,20 @@ class Driver(unittest.TestCase):
 
     def test_calls(self):
         with switched(keys=True, long_runs=True):
-            for seed in SHORT_HISTORIES:
-                self.assertIsNone(self.difference("right", "histories", seed))
-            for which, first in CALLS_FOUND_BY:
-                with self.subTest(which=which):
-                    self.assertIsNotNone(self.difference(which, "histories", first))
+            self.find_wrong("histories", SHORT_HISTORIES, CALLS_FOUND_BY, tries=0)
 
-    def test_histories_beside(self):
-        with switched(keys=True, long_runs=True, programs=True, schedules=True):
-            for seed in SHORT_KEPT:
-                self.assertIsNone(self.difference("right", "beside", seed))
-            for which, first in KEPT_FOUND_BY:
-                with self.subTest(which=which):
-                    self.assertTrue(any(self.difference(which, "beside", seed) for seed in (first, *range(1, 41))))
+    def find_wrong(self, kind, short, found_by, tries):
+        """Of short cases of a kind the right program has no difference, and each wrong one has: by its first seed, or by one of so many others."""
+        for seed in short:
+            self.assertIsNone(self.difference("right", kind, seed))
+        for which, first in found_by:
+            with self.subTest(which=which):
+                self.assertTrue(any(self.difference(which, kind, seed) for seed in (first, *range(1, tries + 1))))
 
-    def test_histories_of_drives(self):
+    def test_histories(self):
         with switched(keys=True, long_runs=True, programs=True, schedules=True):
-            for seed in SHORT_DRIVEN:
-                self.assertIsNone(self.difference("right", "kept", seed))
-            for which, first in DRIVEN_FOUND_BY:
-                with self.subTest(which=which):
-                    self.assertTrue(any(self.difference(which, "kept", seed) for seed in (first, *range(1, 17))))
+            self.find_wrong("beside", SHORT_KEPT, KEPT_FOUND_BY, tries=40)
+            self.find_wrong("kept", SHORT_DRIVEN, DRIVEN_FOUND_BY, tries=16)
 
     def test_keys_of_one_side(self):
         """The program has keys and the model none, or the other way round."""

@@ -19,19 +19,15 @@ from model.switches import switched
 from unit.test_feeding import ECHO
 from unit.test_plans import WITHOUT_END
 from unit.test_rows import PUTS_A, image
-from unit.test_schedules import ListingDisk
+from unit.test_schedules import ListingDisk, WithSchedules
 
 TIGHT, ROOMY = Geometry(16, 2, 4096), Geometry(16, 2, 65536)  # journals that have a checkpoint behind each batch, and none
 TURNS = Options(turn=5, rounds=2)  # so a batch has ten events
 PUTS_FOR_EVER = image("04100513 00200893 00000073 ff5ff06f")
 
 
-class WithSchedules(unittest.TestCase):
-    def setUp(self):
-        switch = switched(keys=True, long_runs=True, programs=True, schedules=True)
-        switch.__enter__()
-        self.addCleanup(switch.__exit__, None, None, None)
-        self.disk, self.output = format_disk(TIGHT, WITHOUT_END), bytearray()
+class WithDrives(WithSchedules):
+    made_of = TIGHT, WITHOUT_END
 
     def drive(self, events, keeper=None, **how):
         words = {**vars(TURNS), **how}
@@ -50,7 +46,7 @@ class WithSchedules(unittest.TestCase):
         return recorded_by(disk).events
 
 
-class Keeping(WithSchedules):
+class Keeping(WithDrives):
     def test_all_events(self):
         """Of a disk that has forgotten most of them."""
         kept, line = self.kept_by(95)
@@ -102,7 +98,7 @@ class Keeping(WithSchedules):
         self.assertEqual(disk.listed, [None])
 
 
-class Refusals(WithSchedules):
+class Refusals(WithDrives):
     def refused(self, fault, keeper, **how):
         disk, output = bytes(self.disk), bytes(self.output)
         with self.assertRaisesRegex((Unkept, Undriven), f"^{fault}$"):
@@ -143,7 +139,7 @@ class Refusals(WithSchedules):
         self.assertEqual((kept.events, line), ([], "appended 0"))
 
 
-class Stops(WithSchedules):
+class Stops(WithDrives):
     def test_stops(self):
         """Whatever a stop of the disk at each call leaves, the history has no event that the disk lacks, and lacks at most the last batch, which the next
         drive appends."""
@@ -184,7 +180,7 @@ class Stops(WithSchedules):
         self.assertEqual((line, kept.events), ("appended 10", self.all_events(60, PUTS_FOR_EVER)))
 
 
-class Cases(WithSchedules):
+class Cases(WithDrives):
     def test_drawn(self):
         """Steps of each kind, and in the history's place files of each."""
         cases = [case_of("kept", seed) for seed in range(1, 41)]

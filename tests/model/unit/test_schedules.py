@@ -30,13 +30,19 @@ def note(text):
     return bytes.fromhex(text)
 
 
-class Schedules(unittest.TestCase):
+class WithSchedules(unittest.TestCase):
+    """Tests of a disk that notes schedules, and of the output beside it."""
+
+    made_of = SMALL, LOOP
+
     def setUp(self):
         switch = switched(keys=True, long_runs=True, programs=True, schedules=True)
         switch.__enter__()
         self.addCleanup(switch.__exit__, None, None, None)
-        self.disk, self.output = format_disk(SMALL, LOOP), bytearray()
+        self.disk, self.output = format_disk(*self.made_of), bytearray()
 
+
+class Schedules(WithSchedules):
     def drive(self, *words, **options):
         """The names of the faults of a drive of two events, or its status."""
         status, faults = drive_of_model(self.disk, self.output, Options(*words, **{"events": 2, **options}), Counter(), *UNFED)
