@@ -22,7 +22,7 @@ use Rattle.ckrt_machine.specs.Events.{memory_in}
 use Rattle.ckrt_stored.proofs.HoldLemmas.{AreFieldsFit, closed_journal, header_gate, holds_header, holds_memory, holds_tables}
 use Rattle.ckrt_stored.specs.declared.progress.Progress.{Progress}
 use Rattle.ckrt_stored.specs.Frame.{BelongsTo, HoldsState, IsNewest, in_other_area}
-use Rattle.ckrt_stored.specs.Progress.{ArePagesSaved, IsBehind, PagesStand, RecoversToOldOrNew, recovered_of, save_point_of}
+use Rattle.ckrt_stored.specs.Progress.{ArePagesSaved, IsBehind, IsOtherLeft, PagesStand, RecoversToOldOrNew, recovered_of, save_point_of}
 use Rattle.ckrt_stored.specs.Recovery.{Recovered, Recovers}
 use Rattle.ckrt_stored.specs.Superblock.{superblock_of}
 use Rattle.ckrt_stored.proofs.GrowthLemmas.{framed, kept_header, kept_superblock}
@@ -55,6 +55,19 @@ unchanged at content image closing opened = same_number_lists image content clos
 
 checked_by : (a : Area) → nat_eq a.header.generation 0 ≡ false → a.header.version ≡ 2 → is_in_range a.header ≡ true → checked_area a ≡ Ok a
 checked_by a generation version in_range = rw (generation, version, in_range) refl
+
+-- the fields of its header have room there
+fits : (p : Progress) (tables : List ℕ) → length tables ≤ 98304 → p.generation + 1 < 2 ^ 64 → AreFieldsFit (next_header (save_point_of p) tables)
+fits p tables few last =
+    let count = p.bounded_count in
+    let end = p.bounded_end in
+    record {
+      generation = omega (arith, last);
+      count = omega (arith, count);
+      offset = omega (arith, end);
+      tables = omega (arith, few);
+      version = omega arith;
+    }
 
 module _ (p : Progress) (tables content image : List ℕ) (r : Recovered) (was : IsBehind p content r) where
   there : ◌≡◌ {A = Config × ℕ} (r.config, 1 - r.area) (p.config, 1 - p.area)
@@ -128,16 +141,7 @@ module _ (p : Progress) (tables content image : List ℕ) (r : Recovered) (was :
     newest is = subst (λ (k : Header). k.generation < p.generation + 1) (sym other) (omega (arith, generation))
 
     fit : AreFieldsFit h
-    fit =
-        let count = p.bounded_count in
-        let end = p.bounded_end in
-        record {
-          generation = omega (arith, last);
-          count = omega (arith, count);
-          offset = omega (arith, end);
-          tables = omega (arith, few);
-          version = omega arith;
-        }
+    fit = fits p tables few last
 
     checked : checked_area area ≡ Ok area
     checked =
@@ -176,6 +180,22 @@ saving_recovers p tables content image r was savable encoded few last saving = �
     (λ has. inr (saved_recovers p tables content image r was savable encoded few last has))
     more)
     saving
+
+-- and of the other area
+pub saving_other : (p : Progress) (tables content image : List ℕ) → length tables ≤ 98304 → p.generation + 1 < 2 ^ 64 → IsSaving p.config (save_point_of p) tables p.machine.state.bytes content image → IsOtherLeft p content image
+saving_other p tables content image few last saving = ⊎_elim closed
+    (λ more. ⊎_elim
+    (λ (filling : IsFilling p.config (1 - p.area) content image). inl (header_gate p.config (1 - p.area) image ∙ filling.gate))
+    (λ (has : HasSaved p.config (1 - p.area) (next_header (save_point_of p) tables) tables p.machine.state.bytes content image). inr (inr (ap (λ (h : Header). h.generation) (holds_header p.config (1 - p.area) (next_header (save_point_of p) tables) tables p.machine.state.bytes image has.holds (fits p tables few last) refl))))
+    more)
+    saving
+  where
+    closed : IsClosing (area_at p.config (1 - p.area)) content image → IsOtherLeft p content image
+    closed c = by_gate (is_gate_open (area_at p.config (1 - p.area)) image) refl
+      where
+        by_gate : (b : Bool) → is_gate_open (area_at p.config (1 - p.area)) image ≡ b → IsOtherLeft p content image
+        by_gate true opened = inr (inl (unchanged (area_at p.config (1 - p.area)) content image c opened))
+        by_gate false shut = inl (header_gate p.config (1 - p.area) image ∙ shut)
 
 -- what a save leaves of the pages
 pub pages_saved : (p : Progress) (content image : List ℕ) (h : Header) (tables : List ℕ) (m : Memory) (point : SavePoint) → point ≡ save_point_of p → m ≡ memory_in p.machine → PagesStand p content

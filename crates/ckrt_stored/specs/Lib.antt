@@ -11,6 +11,7 @@ pub mod Frame
 pub mod Progress
 pub mod Reads
 pub mod Programs
+pub mod Recorded
 pub mod Fields
 pub mod Format
 pub mod Past

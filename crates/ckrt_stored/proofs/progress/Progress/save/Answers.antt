@@ -8,8 +8,8 @@ use Rattle.ckrt_tables.specs.Savable.{CanBeSaved}
 use Rattle.ckrt_stored.specs.declared.save_point.SavePoint.{SavePoint}
 use Rattle.ckrt_stored.specs.Write.{HasSaved, IsSaving, next_header}
 use Rattle.ckrt_memory.specs.Marks.{Memory}
-use Rattle.ckrt_stored.specs.Progress.{RecoversToOldOrNew, save_point_of}
-use Rattle.ckrt_stored.proofs.SaveLemmas.{pages_saved, saved_recovers, saving_recovers}
+use Rattle.ckrt_stored.specs.Progress.{IsOtherLeft, RecoversToOldOrNew, save_point_of}
+use Rattle.ckrt_stored.proofs.SaveLemmas.{pages_saved, saved_recovers, saving_other, saving_recovers}
 use Rattle.ckrt_stored.proofs.progress.Progress.save.Goals as goal
 
 pub returns-clause-any_moment : goal.returns-clause-any_moment
@@ -27,6 +27,18 @@ returns-clause-any_moment g c = λ r behind durable honest.
     let last : p.generation + 1 < 2 ^ 64 = c.requires.generation in
     weaker d.moment d.left_since c.args.disk.now c.write_area.new.disk _ (RecoversToOldOrNew p r) (c.write_area.ensures.any_moment durable honest) (λ image left.
     saving_recovers p bytes (d.content c.args.disk.now) image r behind savable front few last
+    (subst (λ (m : Memory). IsSaving p.config (save_point_of p) bytes m.bytes (d.content c.args.disk.now) image) c.memory.ensures
+    (subst (λ (point : SavePoint). IsSaving p.config point bytes c.memory.result.now.bytes (d.content c.args.disk.now) image) c.save_point.ensures left)))
+
+pub returns-clause-other : goal.returns-clause-other
+returns-clause-other g c = λ durable honest.
+    let d = g.D.Disk in
+    let p = c.args.self.now in
+    let n = c.encode_tables-n.result in
+    let bytes : List ℕ = take n c.encode_tables-n.new.out in
+    let few : length bytes ≤ 98304 = omega (arith, ap length c.encode_tables-n.ensures.front, c.encode_tables-n.ensures.length, c.encode_tables-n.ensures.longest) in
+    weaker d.moment d.left_since c.args.disk.now c.write_area.new.disk _ (IsOtherLeft p (d.content c.args.disk.now)) (c.write_area.ensures.any_moment durable honest) (λ image left.
+    saving_other p bytes (d.content c.args.disk.now) image few c.requires.generation
     (subst (λ (m : Memory). IsSaving p.config (save_point_of p) bytes m.bytes (d.content c.args.disk.now) image) c.memory.ensures
     (subst (λ (point : SavePoint). IsSaving p.config point bytes c.memory.result.now.bytes (d.content c.args.disk.now) image) c.save_point.ensures left)))
 
