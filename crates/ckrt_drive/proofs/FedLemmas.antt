@@ -1,5 +1,5 @@
 -- What an image keeps of the input, where its bytes change.
-use Rattle.std.proofs.Common.{◌≡◌, ◌⊎◌, inl, inr, ⊎_elim, ℕ, ◌+◌, ◌-◌, ◌&&◌, Bool, true, false, nat_eq, if◌then◌else◌, List, [], ◌∷◌, ◌++◌, length, take, drop, Option, Some, Result, Ok, refl, sym, ◌∙◌, ap, subst, arith, append_assoc, length-append}
+use Rattle.std.proofs.Common.{◌≡◌, ◌⊎◌, inl, inr, ⊎_elim, ℕ, ◌+◌, ◌&&◌, Bool, true, false, nat_eq, if◌then◌else◌, List, [], ◌∷◌, ◌++◌, length, take, drop, Option, Some, Result, Ok, refl, sym, ◌∙◌, ap, subst, arith, append_assoc, length-append}
 use Rattle.std.proofs.lemmas.Bool.Decides.{nat_tests}
 use Rattle.std.proofs.lemmas.List.{append-nil}
 use Rattle.std.proofs.lemmas.Grind.{flat_map-append}
@@ -68,14 +68,20 @@ module _ (image : List ℕ) (r : Recovered) (recovers : Recovers image (Ok r)) w
   pub fed_there : (events : List Event) → IsFed events image → IsFedIn events r.config (area_of r image) image
   fed_there events is = subst (λ (u : Config × Area). IsFedIn events u.0 u.1 image) (same_found is.config r.config is.area (area_of r image) (sym is.used ∙ used_is)) is.fed
 
-  -- how many events it has
-  pub fed_count : (events : List Event) → IsFed events image → r.count ≡ length events
-  fed_count events is =
-      let same = same_found is.config was.config is.area was.area (sym is.used ∙ was.used) in
-      let f : IsFedIn events was.config was.area image = subst (λ (u : Config × Area). IsFedIn events u.0 u.1 image) same is.fed in
-      let batches : f.batches ≡ was.batches = let e : ◌≡◌ {A = Result (List (List ℕ)) JournalFault} (Ok f.batches) (Ok was.batches) = sym f.chain ∙ was.chain in cc in
-      sym (ap (λ (x : Recovered). x.count) was.is_replayed) ∙ ap (λ (l : List (List ℕ)). was.area.header.count + length (events_of_batches l)) (sym batches)
-      ∙ ap (λ n. n + length (events_of_batches f.batches)) f.count ∙ sym (ap length f.all ∙ length-append f.saved (events_of_batches f.batches))
+  -- how many events it has, by those that led to its area's state and its journal's batches
+  pub counted_all : (c : Config) (area : Area) (saved events : List Event) (batches : List (List ℕ)) → in_use image ≡ found c area → area.header.count ≡ length saved
+      → batches_of area.header.version (journal_bytes (journal_of c area.index area.header.version) image) ≡ Ok batches → events ≡ saved ++ events_of_batches batches → r.count ≡ length events
+  counted_all c area saved events batches used count chain all =
+      let same = same_found c was.config area was.area (sym used ∙ was.used) in
+      let there : batches_of was.area.header.version (journal_bytes (journal_of was.config was.area.index was.area.header.version) image) ≡ Ok batches =
+      subst (λ (u : Config × Area). batches_of u.1.header.version (journal_bytes (journal_of u.0 u.1.index u.1.header.version) image) ≡ Ok batches) same chain in
+      let front : was.area.header.count ≡ length saved = subst (λ (u : Config × Area). u.1.header.count ≡ length saved) same count in
+      let they : batches ≡ was.batches = let e : ◌≡◌ {A = Result (List (List ℕ)) JournalFault} (Ok batches) (Ok was.batches) = sym there ∙ was.chain in cc in
+      sym (ap (λ (x : Recovered). x.count) was.is_replayed) ∙ ap (λ (l : List (List ℕ)). was.area.header.count + length (events_of_batches l)) (sym they)
+      ∙ ap (λ n. n + length (events_of_batches batches)) front ∙ sym (ap length all ∙ length-append saved (events_of_batches batches))
+
+  fed_count : (events : List Event) → IsFed events image → r.count ≡ length events
+  fed_count events is = counted_all is.config is.area is.fed.saved events is.fed.batches is.used is.fed.count is.fed.chain is.fed.all
 
 -- BYTES THAT CHANGE ELSEWHERE
 
@@ -104,6 +110,30 @@ stays_fed events before image r recovers still region same header_apart journal_
     }
 
 -- A JOURNAL THAT CHANGES
+
+-- what goes on with the batches of the journal in use goes on as those do
+module _ (Has : List Event → Type 0) (events : List Event) (before image : List ℕ) (r : Recovered) (recovers : Recovers before (Ok r)) where
+  abbrev batches_before : List (List ℕ)
+  batches_before = (known before r recovers).batches
+
+  -- the image has what goes with some batches more, where its journal has them
+  abbrev pub GoesOn : Type 0
+  GoesOn = (more : List (List ℕ)) → batches_of r.journal.version (journal_bytes r.journal image) ≡ Ok (batches_before ++ more) → Has (events ++ events_of_batches more)
+
+  with_none : GoesOn → HasChain r.journal image batches_before → Has events
+  with_none on has = subst Has (append-nil events) (on [] (has.chain ∙ ap (λ (l : List (List ℕ)). Ok l) (sym (append-nil batches_before))))
+
+  with_one : (batch : List ℕ) → GoesOn → HasChain (after_batch r.journal batch) image (batches_before ++ batch ∷ []) → Has (events ++ events_in batch)
+  with_one batch on has = subst (λ (es : List Event). Has (events ++ es)) (append-nil (events_in batch)) (on (batch ∷ []) has.chain)
+
+  pub with_any : (batch : List ℕ) → GoesOn → MayHaveAppended r.journal batch before image → Has events ⊎ Has (events ++ events_in batch)
+  with_any batch on may = elim (may.chain batches_before (had_chain before image r recovers may.outside)) [
+    | inl kept ↦ inl (with_none on kept)
+    | inr more ↦ inr (with_one batch on more)
+  ]
+
+  pub with_more : (batch : List ℕ) → GoesOn → HasAppended r.journal batch before image → Has (events ++ events_in batch)
+  with_more batch on has = with_one batch on (has.chain batches_before (had_chain before image r recovers has.outside))
 
 -- a journal ends before the slots
 before_slots : (c : Config) (area other : ℕ) → (area ≡ 0) ⊎ (area ≡ 1) → (i : ℕ) → IsWithin (slot_at c other) 40 i → ¬ IsWithin (journal_at c area) c.journal i
@@ -146,23 +176,15 @@ module _ (events : List Event) (before image : List ℕ) (r : Recovered) (recove
     };
   }
 
-  kept_fed : HasChain r.journal image old.batches → IsFed events image
-  kept_fed has = subst (λ (es : List Event). IsFed es image) (append-nil events) (grown_fed [] (has.chain ∙ ap (λ (l : List (List ℕ)). Ok l) (sym (append-nil old.batches))))
-
-  more_fed : (batch : List ℕ) → HasChain (after_batch r.journal batch) image (old.batches ++ batch ∷ []) → IsFed (events ++ events_in batch) image
-  more_fed batch has = subst (λ (es : List Event). IsFed (events ++ es) image) (append-nil (events_in batch)) (grown_fed (batch ∷ []) has.chain)
-
 -- what a stop of an append leaves
 pub appending_fed : (events : List Event) (before image : List ℕ) (r : Recovered) (batch : List ℕ) → Recovers before (Ok r) → IsFed events before → MayHaveAppended r.journal batch before image
     → IsFed events image ⊎ IsFed (events ++ events_in batch) image
-appending_fed events before image r batch recovers is may = elim (may.chain (known before r recovers).batches (had_chain before image r recovers may.outside)) [
-  | inl kept ↦ inl (kept_fed events before image r recovers may.outside is kept)
-  | inr more ↦ inr (more_fed events before image r recovers may.outside is batch more)
-]
+appending_fed events before image r batch recovers is may =
+    with_any (λ (es : List Event). IsFed es image) events before image r recovers batch (grown_fed events before image r recovers may.outside is) may
 
 pub appended_fed : (events : List Event) (before image : List ℕ) (r : Recovered) (batch : List ℕ) → Recovers before (Ok r) → IsFed events before → HasAppended r.journal batch before image → IsFed (events ++ events_in batch) image
 appended_fed events before image r batch recovers is has =
-    more_fed events before image r recovers has.outside is batch (has.chain (known before r recovers).batches (had_chain before image r recovers has.outside))
+    with_more (λ (es : List Event). IsFed es image) events before image r recovers batch (grown_fed events before image r recovers has.outside is) has
 
 -- AN AREA WITHOUT A JOURNAL
 
@@ -189,10 +211,10 @@ module _ (image : List ℕ) (r : Recovered) (recovers : Recovers image (Ok r)) (
   abbrev now : IsKnown image r
   now = known image r recovers
 
-  no_batches : now.batches ≡ []
+  pub no_batches : now.batches ≡ []
   no_batches = no_gate now.batches (let n : 0 + gate_behind now.batches ≡ r.journal.next_gate = ap (λ (x : Recovered). x.journal.next_gate) now.is_replayed in omega (arith, n, start))
 
-  counted : now.area.header.count ≡ length events
+  pub counted : now.area.header.count ≡ length events
   counted =
       let n : now.area.header.count + length (events_of_batches now.batches) ≡ r.count = ap (λ (x : Recovered). x.count) now.is_replayed in
       let none : length (events_of_batches now.batches) ≡ 0 = ap (λ (l : List (List ℕ)). length (events_of_batches l)) no_batches in

@@ -1,15 +1,15 @@
 -- What calls of a session keep of the input that its events took.
 use Rattle.std.proofs.Common.{◌≡◌, ℕ, ◌≤◌, false, Option, Some, None, List, [], ◌∷◌, ◌++◌, Result, sym, ap, subst, append-nil}
-use Rattle.ckrt_disk.specs.Disk.{IsImage, LeavesOnly}
+use Rattle.ckrt_disk.specs.Disk.{IsImage}
 use Rattle.ckrt_disk.specs.declared.disk.Disk.{Ghosts}
-use Rattle.ckrt_disk.proofs.Moments.{started}
 use Rattle.ckrt_recovery.specs.Accepts.{Accepts}
 use Rattle.ckrt_recovery.proofs.AcceptLemmas.{accepts_kept}
 use Rattle.ckrt_events.specs.declared.event.Event.{Event}
 use Rattle.ckrt_stored.specs.Programs.{Program}
+use Rattle.ckrt_drive.specs.Fed.{IsFed}
 use Rattle.ckrt_drive.specs.Keeping.{IsCommit, KeepsInput, RecoversFedEither, RepresentsFed, SavesInput}
 use Rattle.ckrt_drive.proofs.CallLemmas.{commit_keeps, commit_moment}
-use Rattle.ckrt_drive.proofs.KeepLemmas.{kept_input, more_input}
+use Rattle.ckrt_drive.proofs.KeepLemmas.{fed_kept, keeps_more, keeps_same, uncalled}
 use Rattle.ckrt_recovery.specs.View.{view_of}
 use Rattle.ckrt_recovery.specs.declared.fault.CommitFault.{CommitFault}
 use Rattle.ckrt_recovery.specs.declared.session.Session.{Session}
@@ -20,27 +20,23 @@ module _ {D : Type 0} {g : Ghosts D} (old new : Session D g) where
   no_more : (p : Program) (events : List Event) → RepresentsFed p events new → RepresentsFed p (events ++ []) new
   no_more p events h = subst (λ (l : List Event). RepresentsFed p l new) (sym (append-nil events)) h
 
-  -- the disk wasn't called
-  uncalled : new.disk ≡ old.disk → (p : Program) (events : List Event) → LeavesOnly g.moment g.left_since old.disk new.disk (RecoversFedEither p events old)
-  uncalled same p events = subst (λ d. LeavesOnly g.moment g.left_since old.disk d (RecoversFedEither p events old)) (sym same) (started g.moment g.left_since old.disk (RecoversFedEither p events old))
-
   -- calls that leave the disk as it is, and take no event
   pub aside_feeds : (recorded : Option ℕ) → Accepts [] old new → new.acknowledged ≡ old.acknowledged → new.failed ≡ old.failed → new.disk ≡ old.disk → FeedsIfRecorded [] old new recorded
   aside_feeds None accepts acknowledged failed same = tt
   aside_feeds (Some taken) accepts acknowledged failed same = record {
     after = λ honest p events fed told. (
       accepts.represents honest p events fed.0,
-      subst (λ (l : List Event). KeepsInput l new) (sym (append-nil events)) (kept_input events old new acknowledged failed same fed.1),
+      subst (λ (l : List Event). KeepsInput l new) (sym (append-nil events)) (keeps_same IsFed events old new acknowledged failed same fed.1),
     );
-    any_moment = λ honest p events fed told. uncalled same p events;
+    any_moment = λ honest p events fed told. uncalled g.moment g.left_since old.disk new.disk (RecoversFedEither p events old) same;
   }
 
   -- an event that was taken
   pub event_feeds : (recorded : Option ℕ) (e : Event) → Accepts (e ∷ []) old new → new.acknowledged ≡ old.acknowledged → new.failed ≡ old.failed → old.failed ≡ false → new.disk ≡ old.disk → FeedsIfRecorded (e ∷ []) old new recorded
   event_feeds None e accepts acknowledged failed running same = tt
   event_feeds (Some taken) e accepts acknowledged failed running same = record {
-    after = λ honest p events fed told. (accepts.represents honest p events fed.0, more_input events (e ∷ []) old new fed.0.acknowledged acknowledged failed running same fed.1);
-    any_moment = λ honest p events fed told. uncalled same p events;
+    after = λ honest p events fed told. (accepts.represents honest p events fed.0, keeps_more IsFed events (e ∷ []) old new fed.0.acknowledged acknowledged failed running same fed.1);
+    any_moment = λ honest p events fed told. uncalled g.moment g.left_since old.disk new.disk (RecoversFedEither p events old) same;
   }
 
   -- a checkpoint with a record
@@ -58,10 +54,10 @@ module _ {D : Type 0} {g : Ghosts D} (old new : Session D g) where
     commit_feeds (Some taken) result is = record {
       after = λ honest p events fed told. no_more p events (
         is.represents honest p events fed.0,
-        commit_keeps p events old new fed.0 fed.1 honest (λ image left. only_now old.disk image (is.honest honest) left) (λ image le left. counts_now new.disk (g.moment old.disk) image honest le left) (is.any_moment honest p events fed.0) result is,
+        commit_keeps p IsFed (fed_kept p) events old new fed.0 fed.1 honest (λ image left. only_now old.disk image (is.honest honest) left) (λ image le left. counts_now new.disk (g.moment old.disk) image honest le left) (is.any_moment honest p events fed.0) result is,
       );
       any_moment = λ honest p events fed told.
-          commit_moment p events old new fed.0 fed.1 honest (λ image left. only_now old.disk image (is.honest honest) left) (λ image le left. counts_now new.disk (g.moment old.disk) image honest le left) (is.any_moment honest p events fed.0) result is;
+          commit_moment p IsFed (fed_kept p) events old new fed.0 fed.1 honest (λ image left. only_now old.disk image (is.honest honest) left) (λ image le left. counts_now new.disk (g.moment old.disk) image honest le left) (is.any_moment honest p events fed.0) result is;
     }
 
 -- nothing was done

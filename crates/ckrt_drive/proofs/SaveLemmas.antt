@@ -25,8 +25,10 @@ use Rattle.ckrt_drive.specs.declared.step_done.StepDone.{StepDone}
 use Rattle.ckrt_drive.specs.declared.step_done.StepDone.TheVariants.{Submitted, Committed, Checkpointed}
 use Rattle.ckrt_drive.specs.Plan.{make_room, is_shortage, offered}
 use Rattle.ckrt_drive.specs.Feeding.{FeedsIfRecorded, LacksRecord}
+use Rattle.ckrt_drive.specs.Recording.{RecordsEvents}
 use Rattle.ckrt_drive.specs.Steps.{Advances, aim}
 use Rattle.ckrt_drive.proofs.FeedLemmas.{event_feeds, still_feeds}
+use Rattle.ckrt_drive.proofs.RecordLemmas.{event_records, still_records}
 
 -- CHOICES
 
@@ -56,45 +58,48 @@ submitted e answer = Ok (Submitted e answer)
 module _ {D : Type 0} {g : Ghosts D} (recorded : Option ℕ) where
   -- COMMITS
 
-  pub advances_commit : (region : ℕ → Type 0) (n x : ℕ) (old new : Session D g) (r : Result ℕ CommitFault) → r ≡ Ok x → FeedsIfRecorded [] old new recorded
+  pub advances_commit : (region : ℕ → Type 0) (n x : ℕ) (old new : Session D g) (r : Result ℕ CommitFault) → r ≡ Ok x → FeedsIfRecorded [] old new recorded → RecordsEvents [] old new
       → (g.is_honest new.disk → (p : Program) (events : List Event) → Represents p events old → LeavesOnly g.moment g.left_since old.disk new.disk (RecoversToEither p events old))
       → (g.is_honest new.disk → (p : Program) (events : List Event) → Represents p events old → Represents p events new)
       → WritesWithin g region n old.disk new.disk (is_device r)
       → Commits old r new
       → Advances (aim (Ok Committed) recorded) old new (Ok Committed)
-  advances_commit region n x old new r is feeds any_moment represents disk commits = record {
+  advances_commit region n x old new r is feeds records any_moment represents disk commits = record {
     done = (refl, at_ok r _ x is commits.ok);
     why = tt;
     accepts = accepts_commit region n old new r any_moment represents disk commits;
     feeds = feeds;
+    records = records;
   }
 
-  pub advances_failed : (region : ℕ → Type 0) (n : ℕ) (fault : CommitFault) (old new : Session D g) (r : Result ℕ CommitFault) → r ≡ Err fault → FeedsIfRecorded [] old new recorded
+  pub advances_failed : (region : ℕ → Type 0) (n : ℕ) (fault : CommitFault) (old new : Session D g) (r : Result ℕ CommitFault) → r ≡ Err fault → FeedsIfRecorded [] old new recorded → RecordsEvents [] old new
       → (g.is_honest new.disk → (p : Program) (events : List Event) → Represents p events old → LeavesOnly g.moment g.left_since old.disk new.disk (RecoversToEither p events old))
       → (g.is_honest new.disk → (p : Program) (events : List Event) → Represents p events old → Represents p events new)
       → WritesWithin g region n old.disk new.disk (is_device r)
       → Commits old r new
       → Advances (aim (Ok Committed) recorded) old new (Err Device)
-  advances_failed region n fault old new r is feeds any_moment represents disk commits = record {
+  advances_failed region n fault old new r is feeds records any_moment represents disk commits = record {
     done = tt;
     why = at_err r _ fault is commits.err;
     accepts = accepts_commit region n old new r any_moment represents disk commits;
     feeds = feeds;
+    records = records;
   }
 
   -- CHECKPOINTS
 
-  pub advances_checkpoint : (region : ℕ → Type 0) (n x : ℕ) (old new : Session D g) (r : Result ℕ CommitFault) → r ≡ Ok x → FeedsIfRecorded [] old new recorded
+  pub advances_checkpoint : (region : ℕ → Type 0) (n x : ℕ) (old new : Session D g) (r : Result ℕ CommitFault) → r ≡ Ok x → FeedsIfRecorded [] old new recorded → RecordsEvents [] old new
       → (g.is_honest new.disk → (p : Program) (events : List Event) → Represents p events old → LeavesOnly g.moment g.left_since old.disk new.disk (RecoversToEither p events old))
       → (g.is_honest new.disk → (p : Program) (events : List Event) → Represents p events old → Represents p events new)
       → WritesWithin g region n old.disk new.disk (is_device r)
       → Checkpoints old r new
       → Advances (aim (Ok Checkpointed) recorded) old new (Ok Checkpointed)
-  advances_checkpoint region n x old new r is feeds any_moment represents disk k = record {
+  advances_checkpoint region n x old new r is feeds records any_moment represents disk k = record {
     done = (refl, at_ok r _ x is k.ok);
     why = tt;
     accepts = accepts_all region n old new r any_moment represents disk (acknowledges_checkpoint old new r k);
     feeds = feeds;
+    records = records;
   }
 
   -- there is no place for the record
@@ -104,6 +109,7 @@ module _ {D : Type 0} {g : Ghosts D} (recorded : Option ℕ) where
     why = (refl, lacks, refl);
     accepts = accepts_kept s s refl refl;
     feeds = still_feeds recorded s s refl;
+    records = still_records s s refl;
   }
 
   -- a checkpoint that a reason refuses: which reason it is
@@ -122,6 +128,7 @@ module _ {D : Type 0} {g : Ghosts D} (recorded : Option ℕ) where
         why = (equal old.progress.generation (2 ^ 64 - 1) (used_by old.failed (nat_eq old.progress.generation (2 ^ 64 - 1)) why.0), why.1);
         accepts = accepts_kept old new (ap view_of why.1) (ap (λ (s : Session D g). s.disk) why.1);
         feeds = still_feeds recorded old new why.1;
+        records = still_records old new why.1;
       }
 
   -- of a session that had failed nothing changes
@@ -135,17 +142,18 @@ module _ {D : Type 0} {g : Ghosts D} (recorded : Option ℕ) where
       still_failed old new (failed_by old.failed (nat_eq old.progress.generation (2 ^ 64 - 1)) why.0) why.1
   unsaved commit.GenerationsUsed old new r is other k = absurd (other refl)
 
-  pub advances_unsaved : (region : ℕ → Type 0) (n : ℕ) (fault : CommitFault) (old new : Session D g) (r : Result ℕ CommitFault) → r ≡ Err fault → (fault ≡ commit.GenerationsUsed → ⊥) → FeedsIfRecorded [] old new recorded
+  pub advances_unsaved : (region : ℕ → Type 0) (n : ℕ) (fault : CommitFault) (old new : Session D g) (r : Result ℕ CommitFault) → r ≡ Err fault → (fault ≡ commit.GenerationsUsed → ⊥) → FeedsIfRecorded [] old new recorded → RecordsEvents [] old new
       → (g.is_honest new.disk → (p : Program) (events : List Event) → Represents p events old → LeavesOnly g.moment g.left_since old.disk new.disk (RecoversToEither p events old))
       → (g.is_honest new.disk → (p : Program) (events : List Event) → Represents p events old → Represents p events new)
       → WritesWithin g region n old.disk new.disk (is_device r)
       → Checkpoints old r new
       → Advances (aim (Ok Checkpointed) recorded) old new (Err Device)
-  advances_unsaved region n fault old new r is other feeds any_moment represents disk k = record {
+  advances_unsaved region n fault old new r is other feeds records any_moment represents disk k = record {
     done = tt;
     why = unsaved fault old new r is other k;
     accepts = accepts_all region n old new r any_moment represents disk (acknowledges_checkpoint old new r k);
     feeds = feeds;
+    records = records;
   }
 
   -- EVENTS
@@ -164,6 +172,7 @@ module _ {D : Type 0} {g : Ghosts D} (recorded : Option ℕ) where
         why = tt;
         accepts = accepts;
         feeds = event_feeds old new recorded e accepts acknowledged failed runs disk;
+        records = event_records old new e accepts acknowledged failed runs disk;
       }
 
   pub advances_short : (e : Event) (why : SubmitFault) (old mid new : Session D g) (r : Result StepDone DriveFault) → refusal_of (view_of old) e ≡ Some why → mid ≡ old → is_shortage why ≡ true
@@ -179,4 +188,5 @@ module _ {D : Type 0} {g : Ghosts D} (recorded : Option ℕ) where
     why = (ap (offered (view_of old) e) is ∙ choice (is_shortage why) (Ok (make_room (view_of old))) (Err (Refused why)) false long, same);
     accepts = accepts_kept old new (ap view_of same) (ap (λ (s : Session D g). s.disk) same);
     feeds = still_feeds recorded old new same;
+    records = still_records old new same;
   }

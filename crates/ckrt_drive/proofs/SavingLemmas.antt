@@ -1,5 +1,5 @@
 -- A write of the other area's slot, and a checkpoint behind it, as one call.
-use Rattle.std.proofs.Common.{◌≡◌, ◌⊎◌, inl, inr, ⊎_elim, ℕ, ◌+◌, ◌-◌, ◌≤◌, ◌<◌, ◌^◌, Bool, true, false, if◌then◌else◌, nat_eq, List, length, take, Option, Some, None, Result, Ok, Err, refl, sym, ◌∙◌, ap, subst, arith}
+use Rattle.std.proofs.Common.{◌≡◌, inl, inr, ⊎_elim, ℕ, ◌+◌, ◌-◌, ◌≤◌, ◌<◌, ◌^◌, Bool, true, false, if◌then◌else◌, nat_eq, List, length, take, Option, Some, None, Result, Ok, Err, refl, sym, ◌∙◌, ap, subst, arith}
 use Rattle.std.specs.Prelude.{MatchOption, is_some}
 use Rattle.std.proofs.lemmas.Bool.Decides.{nat_tests}
 use Rattle.ckrt_disk.specs.Disk.{IsOverwritten, IsWithin, LeavesOnly}
@@ -13,7 +13,7 @@ use Rattle.ckrt_events.specs.declared.event.Event.{Event}
 use Rattle.ckrt_machine.specs.Events.{Machine, memory_in}
 use Rattle.ckrt_stored.specs.Programs.{Program}
 use Rattle.ckrt_recovery.specs.Calls.{Checkpoints, WritesOtherArea, WritesSpare, checkpoint_calls, checkpoint_refusal, dirty_of, is_device}
-use Rattle.ckrt_recovery.specs.Represents.{RecoversToEither, Represents}
+use Rattle.ckrt_recovery.specs.Represents.{RecoversToEither}
 use Rattle.ckrt_recovery.specs.View.{View, view_of}
 use Rattle.ckrt_recovery.specs.declared.fault.CommitFault.{CommitFault}
 use Rattle.ckrt_recovery.specs.declared.fault.CommitFault.TheVariants.{Failed, Device, GenerationsUsed}
@@ -21,11 +21,11 @@ use Rattle.ckrt_recovery.specs.declared.session.Session.{Session}
 use Rattle.ckrt_recovery.proofs.SessionLemmas.{recovers_either}
 use Rattle.ckrt_schedule.specs.Taken.{taken_by}
 use Rattle.ckrt_drive.specs.declared.slot.Slot.{Slot}
-use Rattle.ckrt_drive.specs.Fed.{RecoversFed}
-use Rattle.ckrt_drive.specs.Keeping.{KeepsInput, RecordsAt, RecoversFedEither, WritesRecord}
+use Rattle.ckrt_drive.specs.Fed.{IsFed}
+use Rattle.ckrt_drive.specs.Keeping.{RecordsAt, RecoversFedEither, WritesRecord}
 use Rattle.ckrt_drive.specs.SlotLaws.{IsInRange}
 use Rattle.ckrt_drive.specs.Slot.{TAKEN_LIMIT, slot_at, slot_bytes, slot_of, slot_offset}
-use Rattle.ckrt_drive.proofs.KeepLemmas.{next_slot}
+use Rattle.ckrt_drive.proofs.KeepLemmas.{moments_back, next_slot}
 use Rattle.ckrt_drive.proofs.SlotLemmas.{written_slot}
 
 -- REASONS
@@ -188,17 +188,14 @@ module _ {D : Type 0} {g : Ghosts D} (old : Session D g) where
 
     pub fed_back : (p : Program) (events : List Event) → LeavesOnly g.moment g.left_since old.disk mid.disk (RecoversFedEither p events old) → LeavesOnly g.moment g.left_since mid.disk new.disk (RecoversFedEither p events mid)
         → LeavesOnly g.moment g.left_since old.disk new.disk (RecoversFedEither p events old)
-    fed_back p events first second = goes_on g.moment g.left_since old.disk mid.disk new.disk (RecoversFedEither p events old) first
-        (weaker g.moment g.left_since mid.disk new.disk _ (RecoversFedEither p events old) second
-        (λ image q. let both : ◌≡◌ {A = ℕ × ℕ} (mid.acknowledged, mid.progress.confirmed) (old.acknowledged, old.progress.confirmed) = let a = acknowledged in let c = confirmed in cc in
-        subst (λ (u : ℕ × ℕ). RecoversFed p (take u.0 events) u.1 image ⊎ RecoversFed p events u.1 image) both q))
+    fed_back p events first second = moments_back p IsFed events old mid new view first second
 
     -- the slot that stands there then
-    pub slot_there : (p : Program) (events : List Event) (reps : Represents p events mid) (keeps : KeepsInput events mid) (taken : ℕ) → taken ≡ taken_by events → taken < TAKEN_LIMIT → old.progress.generation < 2 ^ 64
+    pub slot_there : (events : List Event) (taken : ℕ) → taken ≡ taken_by events → taken < TAKEN_LIMIT → old.progress.generation < 2 ^ 64
         → bytes ≡ slot_bytes (record { generation = old.progress.generation + 1; count = old.progress.count; taken = taken })
         → slot_at old.progress.config (1 - old.progress.area) + 40 ≤ length (g.content old.disk) → g.is_honest mid.disk
-        → slot_of mid.progress.config (1 - mid.progress.area) (g.content mid.disk) ≡ Some (next_slot p events mid reps keeps running_mid)
-    slot_there p events reps keeps taken same few small is room honest =
+        → slot_of mid.progress.config (1 - mid.progress.area) (g.content mid.disk) ≡ Some (next_slot events mid)
+    slot_there events taken same few small is room honest =
         let s : Slot = record { generation = old.progress.generation + 1; count = old.progress.count; taken = taken } in
         let counted = old.progress.bounded_count in
         let fit : IsInRange s = record { generation = omega (arith, small, more); count = omega (arith, counted); taken = few } in

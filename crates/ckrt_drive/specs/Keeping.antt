@@ -1,4 +1,4 @@
--- What a session keeps of the input that its events took, whatever a stop leaves of its disk.
+-- What a session keeps of its events, whatever a stop leaves of its disk; and so what they took of its input.
 use Rattle.std.specs.Prelude.{◌≡◌, ◌⊎◌, ◌+◌, ◌-◌, ℕ, Bool, true, false, List, [], ◌∷◌, ◌++◌, is_some, Result}
 use Rattle.ckrt_disk.specs.Disk.{IsWithin, LeavesOnly}
 use Rattle.ckrt_disk.specs.Frame.{MayBeLeft, WritesWithin}
@@ -17,13 +17,19 @@ use Rattle.ckrt_schedule.specs.Taken.{taken_by}
 use Rattle.ckrt_drive.specs.Fed.{IsFed, RecoversFed}
 use Rattle.ckrt_drive.specs.Slot.{SLOT_BYTES, slot_at}
 
--- Whatever a stop leaves keeps what the acknowledged ones of these events took; where the session has failed, what these or what all took.
-pub record KeepsInput {D : Type 0} {g : Ghosts D} (events : List Event) (s : Session D g)
-    : Type 0 where
+-- Whatever a stop leaves has this of the acknowledged ones of these events; where the session has failed, of these or of all.
+pub record KeepsOf {D : Type 0} {g : Ghosts D} (Has : List Event → List ℕ → Type 0)
+    (events : List Event) (s : Session D g) : Type 0 where
   pub running : s.failed ≡ false → (image : List ℕ) → MayBeLeft g s.disk image
-      → IsFed (acknowledged_of events s) image
+      → Has (acknowledged_of events s) image
   pub failed : s.failed ≡ true → (image : List ℕ) → MayBeLeft g s.disk image
-      → IsFed (acknowledged_of events s) image ⊎ IsFed events image
+      → Has (acknowledged_of events s) image ⊎ Has events image
+
+-- INPUT
+
+-- whatever a stop leaves keeps what these events took
+abbrev pub KeepsInput : {D : Type 0} {g : Ghosts D} → List Event → Session D g → Type 0
+KeepsInput events s = KeepsOf IsFed events s
 
 -- the session represents these events, and keeps what they took
 abbrev pub RepresentsFed : {D : Type 0} {g : Ghosts D} → Program → List Event → Session D g → Type 0

@@ -1,9 +1,10 @@
 //! A checkpoint with the record of the input.
-ghost use Rattle.std.specs.Prelude.{◌≡◌, ◌≤◌, ◌<◌, ◌+◌};
+ghost use Rattle.std.specs.Prelude.{◌≡◌, ◌≤◌, ◌<◌, ◌+◌, []};
 ghost use Rattle.ckrt_stored.specs.Layout.{size_needed};
 ghost use Rattle.ckrt_recovery.specs.Calls.{Checkpoints, KeepsRooms};
 ghost use Rattle.ckrt_recovery.specs.Represents.{RecoversAtAnyMoment, RepresentsSame};
 ghost use Rattle.ckrt_drive.specs.Keeping.{SavesInput, WritesRecord};
+ghost use Rattle.ckrt_drive.specs.Recording.{RecordsEvents};
 ghost use Rattle.ckrt_drive.specs.Slot.{RECORD_BYTES, TAKEN_LIMIT};
 
 use crate::slot::{SLOT_DISTANCE, Slot, slot_bytes};
@@ -21,6 +22,7 @@ pub fn checkpoint<D: Disk>(session: &mut Session<D>, taken: u64) -> Result<u64, 
     requires taken { taken < TAKEN_LIMIT }
     ensures any_moment { RecoversAtAnyMoment session.old session.new }
     ensures saves { SavesInput taken session.old session.new }
+    ensures records { RecordsEvents [] session.old session.new }
     ensures represents { D.is_honest session.new.disk → RepresentsSame session.old session.new }
     ensures disk { WritesRecord session.old result session.new }
     ensures checkpoints { Checkpoints session.old result session.new }

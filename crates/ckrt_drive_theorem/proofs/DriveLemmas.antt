@@ -8,15 +8,16 @@ use Rattle.ckrt_disk.specs.declared.disk.Disk.{Ghosts}
 use Rattle.ckrt_disk.proofs.Images.{get_part, written_image, written_size, written_there}
 use Rattle.ckrt_events.specs.declared.event.Event.{Event}
 use Rattle.ckrt_stored.specs.Programs.{Program, RecoversTo, output_after}
+use Rattle.ckrt_stored.specs.Recorded.{HasRecorded}
 use Rattle.ckrt_stored.specs.Progress.{recovered_of}
 use Rattle.ckrt_stored.specs.Recovery.{Recovered, Recovers}
 use Rattle.ckrt_stored.specs.declared.fault.RecoverFault.{RecoverFault}
 use Rattle.ckrt_stored.proofs.RecoverLemmas.{recovers_once}
 use Rattle.ckrt_recovery.specs.Recovered.{IsRecovered}
 use Rattle.ckrt_drive.specs.Fed.{IsFed}
-use Rattle.ckrt_drive.specs.Keeping.{KeepsInput}
-use Rattle.ckrt_drive.proofs.FedLemmas.{as_recovered}
-use Rattle.ckrt_drive.proofs.KeepLemmas.{keeps_content}
+use Rattle.ckrt_drive.specs.Keeping.{KeepsInput, KeepsOf}
+use Rattle.ckrt_drive.proofs.KeepLemmas.{IsKept, fed_kept, keeps_content}
+use Rattle.ckrt_drive.proofs.RecordLemmas.{recorded_kept}
 use Rattle.ckrt_disk.specs.Lists.{IsBeginningOf}
 use Rattle.ckrt_recovery.specs.Represents.{Represents, acknowledged_of}
 use Rattle.ckrt_recovery.specs.View.{View, view_of}
@@ -30,9 +31,9 @@ use Rattle.ckrt_drive.specs.Steps.{accepted_in, aim_of}
 use Rattle.ckrt_drive.specs.declared.options.Options.{Options}
 use Rattle.ckrt_drive_theorem.specs.Drives.{AllKeep, ComeBehind, IsDrive, IsTold, Keeps, OneDrive, StopLeaves}
 use Rattle.ckrt_drive_theorem.specs.ByPlan.{IsByPlanFrom, course}
-use Rattle.ckrt_drive_theorem.specs.Together.{HoldTogether, IsLeftSince, IsSpared, KeepsFed, StandTogether, StandsFed, past}
+use Rattle.ckrt_drive_theorem.specs.Together.{HoldTogether, HoldsBetween, IsLeftSince, IsSpared, StandTogether, StandsFed, StandsRecorded, past}
 use Rattle.ckrt_drive_theorem.proofs.ByPlanLemmas.{by_plan_itself, by_plan_through, step_by_plan, told_more}
-use Rattle.ckrt_drive_theorem.proofs.FedSteps.{begins_once, begins_same, fed_after, since_fed, still_fed, stop_fed}
+use Rattle.ckrt_drive_theorem.proofs.FedSteps.{begins_once, begins_same, fed_after, since_fed, since_has, still_fed, still_has, stop_fed, stop_has}
 use Rattle.ckrt_drive_theorem.proofs.StepTogether.{no_longer, now_together, spared_after, step_together}
 
 -- AN IMAGE WITH ANOTHER BYTE
@@ -151,21 +152,25 @@ module _ {D O : Type 0} (g : Ghosts D) (o : Ghosts O) (p : Program) (old : List 
         };
       }
 
-  -- a session keeps what its disk kept
-  session_fed : (start : D) (s : Session D g) (events : List Event) → g.is_honest s.disk → IsRecovered g start s → Represents p events s → IsFed events (g.content start) → KeepsInput events s
-  session_fed start s events honest recovered reps is =
+  -- a session keeps what its disk had
+  session_has : (Has : List Event → List ℕ → Type 0) (start : D) (s : Session D g) (events : List Event) → g.is_honest s.disk → IsRecovered g start s → Represents p events s → Has events (g.content start) → KeepsOf Has events s
+  session_has Has start s events honest recovered reps is =
       let settled = recovered.disk.settled refl honest in
       let count = ap (λ (v : View). v.acknowledged) recovered.view ∙ reps.count in
       let same : acknowledged_of events s ≡ events = take_all s.acknowledged events (omega (arith, count)) in
-      keeps_content events s (ap (λ (v : View). v.failed) recovered.view) settled.durable
-      (subst (λ (l : List Event). IsFed l (g.content s.disk)) (sym same) (subst (λ (l : List ℕ). IsFed events l) (sym settled.content) is))
+      keeps_content {Has = Has} events s (ap (λ (v : View). v.failed) recovered.view) settled.durable
+      (subst (λ (l : List Event). Has l (g.content s.disk)) (sym same) (subst (λ (l : List ℕ). Has events l) (sym settled.content) is))
+
+  opened_has : (Has : List Event → List ℕ → Type 0) → IsKept p Has → (before most : List Event) (start : D) (s : Session D g) (a : O) → g.is_honest s.disk → IsRecovered g start s → (x : Opens before most (g.content start) s a)
+      → ((image : List ℕ) → MayBeLeft g start image → HoldsBetween Has (past p old before most) image) → KeepsOf Has x.all s
+  opened_has Has kept before most start s a honest recovered x stand =
+      let k : HoldsBetween Has (past p old before most) (g.content start) = stand (g.content start) (itself g start) in
+      let same : x.all ≡ k.all = begins_once x.all k.all most x.within k.within (kept.as_many x.all k.all x.from (g.content start) x.recovers k.held.1) in
+      session_has Has start s x.all honest recovered x.represents (subst (λ (l : List Event). Has l (g.content start)) (sym same) k.held.1)
 
   opened_fed : (file : Option (List ℕ)) (before most : List Event) (start : D) (s : Session D g) (a : O) → g.is_honest s.disk → IsRecovered g start s → (x : Opens before most (g.content start) s a) → StandsFed g file (past p old before most) start
       → IfSome file (λ bytes. KeepsInput x.all s)
-  opened_fed (Some bytes) before most start s a honest recovered x stand =
-      let k : KeepsFed (past p old before most) (g.content start) = stand (g.content start) (itself g start) in
-      let same : x.all ≡ k.all = begins_once x.all k.all most x.within k.within (as_recovered p x.all k.all x.from (g.content start) x.recovers k.fed.1) in
-      session_fed start s x.all honest recovered x.represents (subst (λ (l : List Event). IsFed l (g.content start)) (sym same) k.fed.1)
+  opened_fed (Some bytes) before most start s a honest recovered x stand = opened_has IsFed (fed_kept p) before most start s a honest recovered x stand
   opened_fed None before most start s a honest recovered x stand = tt
 
   -- STEP BY STEP
@@ -180,6 +185,8 @@ module _ {D O : Type 0} (g : Ghosts D) (o : Ghosts O) (p : Program) (old : List 
     pub represents : Represents p all y.session
     pub holds : HoldsOutput o 0 y.session.progress.confirmed (acknowledged_output p all y.session) y.output
     pub spares : IsSpared o y.session.released old y.output
+    -- what a stop leaves has recorded its events
+    pub recorded : KeepsOf (HasRecorded p) events x.session → (at : Stage g o) (disk : D) (output : O) → StopLeaves stages x at disk output → StandsRecorded g (past p old (take at.session.acknowledged all) all) disk
     -- what a stop leaves keeps what the events took, where there is an input
     pub fed : IfSome file (λ bytes. KeepsInput events x.session) → IsTold file x.taken events → (at : Stage g o) (disk : D) (output : O) → StopLeaves stages x at disk output → StandsFed g file (past p old (take at.session.acknowledged all) all) disk
     pub moments : (at : Stage g o) (disk : D) (output : O) → StopLeaves stages x at disk output → StandTogether g o (past p old (take at.session.acknowledged all) all) disk output
@@ -214,6 +221,8 @@ module _ {D O : Type 0} (g : Ghosts D) (o : Ghosts O) (p : Program) (old : List 
       represents = subst (λ (q : Stage g o). Represents p events q.session) (sym h) reps;
       holds = subst (λ (q : Stage g o). HoldsOutput o 0 q.session.progress.confirmed (acknowledged_output p events q.session) q.output) (sym h) held;
       spares = subst (λ (q : Stage g o). IsSpared o q.session.released old q.output) (sym h) spared;
+      recorded = λ keeps at disk output left. stop_has p (HasRecorded p) (recorded_kept p) events x.session x.session reps old events at.session.acknowledged disk (begins_itself events) (at_same x at left.0) left.1
+          (still_has law p (HasRecorded p) (recorded_kept p) events x.session reps (subst (λ (q : Stage g o). g.is_honest q.session.disk) h honest) keeps);
       fed = λ keeps told at disk output left. stop_fed p events x.session x.session reps file old events at.session.acknowledged disk (begins_itself events) (at_same x at left.0) left.1
           (still_fed law p events x.session reps (subst (λ (q : Stage g o). g.is_honest q.session.disk) h honest) file keeps);
       moments = λ at disk output left. at_stage events (events ++ []) events x x at disk output reps (begins_itself events) (subst (λ (l : List Event). IsBeginningOf l events) (sym (append-nil events)) (begins_itself events)) left.0 left.1 left.2
@@ -239,6 +248,11 @@ module _ {D O : Type 0} (g : Ghosts D) (o : Ghosts O) (p : Program) (old : List 
           still = λ at disk output left. elim left [
             | inl here ↦ same_acknowledged x at here.0
             | inr later ↦ (let rest = k.still at disk output later in omega (arith, rest, step.accepts.acknowledged))
+          ];
+          recorded = λ keeps at disk output left. elim left [
+            | inl here ↦ stop_has p (HasRecorded p) (recorded_kept p) events x.session z.session reps old k.all at.session.acknowledged disk begins (at_same x at here.0) here.1
+                (since_has p (HasRecorded p) (recorded_kept p) events x.session z.session reps law start (step.records.any_moment mid p events (reps, keeps)) keeps)
+            | inr later ↦ k.recorded (step.records.after mid p events (reps, keeps)).1 at disk output later
           ];
           fed = λ keeps told at disk output left. elim left [
             | inl here ↦ stop_fed p events x.session z.session reps file old k.all at.session.acknowledged disk begins (at_same x at here.0) here.1
@@ -275,6 +289,7 @@ module _ {D O : Type 0} (g : Ghosts D) (o : Ghosts O) (p : Program) (old : List 
           taken = k.taken;
           still = λ at disk output left. still_begins opened.all k.all v.first.session.acknowledged at.session.acknowledged before opened.known opened.begins k.more (k.still at disk output left);
           any_moment = k.moments;
+          recorded = λ stand. k.recorded (opened_has (HasRecorded p) (recorded_kept p) before most v.start v.first.session v.first.output honest is.recovered opened stand);
           fed = λ stand told. k.fed (opened_fed v.file before most v.start v.first.session v.first.output honest is.recovered opened stand) told;
           holds = k.holds;
           spares = k.spares;

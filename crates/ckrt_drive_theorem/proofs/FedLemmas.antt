@@ -22,7 +22,7 @@ use Rattle.ckrt_disk.specs.Lists.{IsBeginningOf}
 use Rattle.ckrt_drive_theorem.specs.ByPlan.{Course}
 use Rattle.ckrt_drive_theorem.specs.Drives.{AllHaveInput, AllKeep, AllOnCourse, AllTold, AllToldByRecord, ComeBehind, IsTold, IsToldByRecord, Keeps, OneDrive, course_of, past_behind}
 use Rattle.ckrt_drive_theorem.specs.Giving.{AllGiveFile, GiveFile}
-use Rattle.ckrt_drive_theorem.specs.Together.{KeepsFed, Past, StandsFed, past}
+use Rattle.ckrt_drive_theorem.specs.Together.{HoldsBetween, Past, StandsFed, past}
 use Rattle.ckrt_drive_theorem.proofs.DriveLemmas.{itself}
 use Rattle.ckrt_drive_theorem.proofs.FedSteps.{begins_once}
 use Rattle.ckrt_drive_theorem.proofs.InputLemmas.{given_by_plan}
@@ -31,7 +31,7 @@ use Rattle.ckrt_drive_theorem.proofs.LeftLemmas.{starts_formatted}
 -- a formatted disk keeps that nothing was taken
 pub formatted_fed : {D : Type 0} (d : Ghosts D) (file : Option (List ℕ)) (p : Program) (old : List ℕ) (disk : D) → ((image : List ℕ) → MayBeLeft d disk image → RecoversToStart p image) → StandsFed d file (past p old [] []) disk
 formatted_fed d (Some bytes) p old disk made = λ image may.
-    record { all = []; begins = ([], refl); within = ([], refl); to = 0; fed = (starts_formatted p image (made image may), begins p image (made image may)) }
+    record { all = []; begins = ([], refl); within = ([], refl); to = 0; held = (starts_formatted p image (made image may), begins p image (made image may)) }
 formatted_fed d None p old disk made = tt
 
 -- WHAT IS GIVEN
@@ -75,9 +75,9 @@ module _ {D : Type 0} (d : Ghosts D) where
       → IfSome file (λ bytes. (said : Option ℕ) × (offset_from said (d.content start) ≡ Ok (Some taken))) → IsTold file taken opened
   told_by (Some bytes) taken h start opened from recovers within stand told =
       let image = d.content start in
-      let k : KeepsFed h image = stand image (itself d start) in
-      let same : opened ≡ k.all = begins_once opened k.all h.accepted within k.within (as_recovered h.program opened k.all from image recovers k.fed.1) in
-      same_offset taken (taken_by k.all) (offset_from told.0 image) told.1 (tells_from told.0 k.all image k.fed.1) ∙ ap taken_by (sym same)
+      let k : HoldsBetween IsFed h image = stand image (itself d start) in
+      let same : opened ≡ k.all = begins_once opened k.all h.accepted within k.within (as_recovered h.program opened k.all from image recovers k.held.1) in
+      same_offset taken (taken_by k.all) (offset_from told.0 image) told.1 (tells_from told.0 k.all image k.held.1) ∙ ap taken_by (sym same)
   told_by None taken h start opened from recovers within stand told = tt
 
 module _ {D O : Type 0} {d : Ghosts D} {o : Ghosts O} where

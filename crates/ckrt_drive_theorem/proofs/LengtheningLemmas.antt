@@ -1,5 +1,5 @@
 -- An image with zeros after its bytes, and with a schedule noted: what it recovers to, and what it tells.
-use Rattle.std.proofs.Common.{◌≡◌, ◌⊎◌, inl, inr, ⊎_elim, ℕ, ◌+◌, ◌*◌, ◌-◌, ◌<◌, ◌≤◌, ◌&&◌, not, Bool, true, false, cond, nat_eq, nat_lt, nat_le, if◌then◌else◌, List, [], ◌∷◌, ◌++◌, length, get_or, take, drop, Option, Some, None, Result, Ok, Err, refl, sym, ◌∙◌, ap, subst, arith, length-append, length-drop}
+use Rattle.std.proofs.Common.{◌≡◌, ◌⊎◌, inl, inr, ⊎_elim, ℕ, ◌+◌, ◌*◌, ◌-◌, ◌≤◌, ◌&&◌, not, Bool, true, false, cond, nat_eq, nat_lt, nat_le, if◌then◌else◌, List, [], ◌∷◌, ◌++◌, length, take, drop, Option, Some, None, Result, Ok, Err, refl, sym, ◌∙◌, ap, subst, arith, length-append, length-drop}
 use Rattle.std.specs.Prelude.{replicate}
 use Rattle.std.proofs.lemmas.Bool.{cases_lt}
 use Rattle.std.proofs.lemmas.Bool.Decides.{nat_tests}
@@ -13,28 +13,31 @@ use Rattle.ckrt_stored.specs.declared.area.Area.{Area}
 use Rattle.ckrt_stored.specs.declared.config.Config.{Config}
 use Rattle.ckrt_stored.specs.declared.header.Header.{Header}
 use Rattle.ckrt_stored.specs.Areas.{area_of, newest_area}
-use Rattle.ckrt_stored.specs.Layout.{area_at, area_size, header_in, header_of, is_open, is_valid, journal_at, journal_of, memory_at, memory_of, memory_size, number_at, size_needed, tables_at, tables_of}
+use Rattle.ckrt_stored.specs.Layout.{area_at, area_size, header_in, header_of, is_open, is_valid, journal_at, journal_of, memory_at, memory_size, number_at, size_needed, tables_at}
 use Rattle.ckrt_stored.proofs.PickLemmas.{area_end}
 use Rattle.ckrt_stored.specs.declared.fault.RecoverFault.{RecoverFault}
 use Rattle.ckrt_stored.specs.declared.fault.RecoverFault.TheVariants.{NotFormatted, Version, Damaged}
 use Rattle.ckrt_drive.specs.Stages.{Stage}
 use Rattle.ckrt_schedule.specs.Taken.{taken_by}
-use Rattle.ckrt_stored.specs.Programs.{Program, RecoversTo}
+use Rattle.ckrt_stored.specs.Programs.{Program, RecoversTo, state_after}
+use Rattle.ckrt_stored.specs.Recorded.{HasRecorded, HasRecordedIn, IsOlder, RecoversRecorded}
 use Rattle.ckrt_stored.specs.Recovery.{◌>>=◌, Recovered, Recovers, in_use}
 use Rattle.ckrt_stored.specs.Schedules.{IsFieldless, NotesAt}
 use Rattle.ckrt_stored.specs.Superblock.{MAGIC, is_known_superblock, superblock_in, superblock_of}
 use Rattle.ckrt_disk.proofs.Images.{image_of_image, wider_image}
 use Rattle.ckrt_stored.proofs.FieldlessLemmas as fieldless
 use Rattle.ckrt_stored.proofs.AreaLemmas.{IsInUse, is_in_use}
-use Rattle.ckrt_stored.proofs.GrowthLemmas.{used_by, uses}
+use Rattle.ckrt_stored.proofs.GrowthLemmas.{area_0_or_1, used_by, uses}
 use Rattle.ckrt_stored.proofs.RecoverLemmas.{IsKnown, known, same_found, stays_by}
 use Rattle.ckrt_drive.specs.Fed.{IsFed, IsFedIn, RecoversFed}
 use Rattle.ckrt_drive.specs.Offset.{is_first, journaled, offset_from, or_said, recorded_in, saved_offset, taken_in, with_saved}
 use Rattle.ckrt_drive.specs.declared.slot.Slot.{Slot}
 use Rattle.ckrt_drive.specs.Slot.{SLOT_BYTES, slot_at, slot_in, slot_of}
+use Rattle.ckrt_drive.proofs.FedLemmas.{one_of_two}
+use Rattle.ckrt_drive.proofs.RecordedLemmas.{IsApart, apart_recorded, both_of, other_of_two, taken, written_same}
 use Rattle.ckrt_drive_theorem.specs.Drives.{StopLeaves}
-use Rattle.ckrt_drive_theorem.specs.Lengthening.{IsLengthened, IsLonger, IsReadied, LengthenedTells, LengtheningKeeps, RecoverReadied}
-use Rattle.ckrt_drive_theorem.specs.Together.{IsLeftSince, Past, StandTogether, StandsFed}
+use Rattle.ckrt_drive_theorem.specs.Lengthening.{IsLonger, IsReadied, LengthenedTells, LengtheningKeeps, RecoverReadied}
+use Rattle.ckrt_drive_theorem.specs.Together.{IsLeftSince, Past, StandTogether, StandsFed, StandsRecorded}
 use Rattle.ckrt_drive_theorem.proofs.FedLemmas.{tells_from}
 use Rattle.ckrt_drive_theorem.proofs.LeftLemmas.{left_again}
 
@@ -315,6 +318,52 @@ module _ (before image : List ℕ) (same : IsSameOutside IsFieldless before imag
       ap (λ (r : Result (Config × Area) RecoverFault). r >>= λ u. taken_in (journaled u.0 u.1 image) >>= λ more. Ok (with_saved (or_said (saved_offset u.0 u.1 image) said) more)) (fieldless.used_same before image same)
       ∙ told_same said (in_use before)
 
+-- WHAT IS RECORDED
+
+-- an area and its journal have the same where bytes stand behind
+recorded_in_longer : (p : Program) (events : List Event) (c : Config) (area : Area) (short tail : List ℕ) → is_valid c ≡ true → size_needed c ≤ length short → (area.index ≡ 0) ⊎ (area.index ≡ 1) → area.header.tables ≤ 98304
+    → HasRecordedIn p events c area short → HasRecordedIn p events c area (short ++ tail)
+recorded_in_longer p events c area short tail valid fits which few is =
+    let l = lie_at c area.index area.header.tables (some_pages c valid) few (area_end c area.index which) (journal_fits c area.index which) in
+    record {
+      saved = is.saved;
+      count = is.count;
+      written = written_same c area short (short ++ tail) (state_after p is.saved)
+          (part area.header.tables (tables_at c area.index) short tail (omega (arith, l.tables_end, fits)))
+          (part (memory_size c) (memory_at c area.index) short tail (omega (arith, l.memory_end, fits))) is.written;
+      batches = is.batches;
+      chain = ap (batches_of area.header.version) (part c.journal (journal_at c area.index) short tail (omega (arith, l.journal_end, fits))) ∙ is.chain;
+      all = is.all;
+    }
+
+recorded_longer : (p : Program) (events : List Event) (short tail : List ℕ) (r : Recovered) → Recovers short (Ok r) → HasRecorded p events short → HasRecorded p events (short ++ tail)
+unfolding recorded_in_longer
+recorded_longer p events short tail r recovers is =
+    let k = known short r recovers in
+    let block = kept short tail r recovers in
+    let placed = there short tail r recovers in
+    let had = both_of p events short k.config k.area is k.used in
+    let which = other_of_two k.area.index placed.index in
+    record {
+      config = k.config;
+      area = k.area;
+      used = used_longer short tail r recovers;
+      newer = recorded_in_longer p events k.config k.area short tail block.valid block.fits placed.index (taken k.area placed.checked).0 had.0;
+      older = λ other older.
+          let header = header_stays short tail r recovers (1 - k.area.index) which in
+          let was_older : IsOlder k.config k.area short other = record { is = older.is ∙ ap (λ (h : Header). record { index = 1 - k.area.index; header = h }) header; sound = older.sound } in
+          let found = had.1 other was_older in
+          let one = subst (λ n. (n ≡ 0) ⊎ (n ≡ 1)) (sym (ap (λ (a : Area). a.index) older.is)) which in
+          (found.0, found.1, recorded_in_longer p found.0 k.config other short tail block.valid block.fits one (taken other older.sound.checked).0 found.2);
+    }
+
+-- what is no field of the superblock lies before both areas
+fieldless_apart : (c : Config) (index : ℕ) → (index ≡ 0) ⊎ (index ≡ 1) → IsApart c index IsFieldless
+fieldless_apart c index which i belongs notes =
+    let back : index ≡ 1 - (1 - index) = ⊎_elim (λ is. omega (arith, is)) (λ is. omega (arith, is)) which in
+    let low = (area_0_or_1 c (1 - index) index (other_of_two index which) back i belongs).0 in
+    omega (arith, low, notes.1)
+
 -- A DISK THAT IS MADE READY
 
 to_readied : (p : Program) (events : List Event) (limit : ℕ) (short image : List ℕ) → IsReadied short image → RecoversTo p events limit short → RecoversTo p events limit image
@@ -325,6 +374,17 @@ fed_to_readied p events limit short image ready fed =
     let longer : List ℕ = short ++ replicate ready.zeros 0 in (
       to_readied p events limit short image ready fed.0,
       fed_same longer image (no_fields longer image ready.same) events (fed_longer short (replicate ready.zeros 0) fed.0.recovered fed.0.recovers events fed.1),
+    )
+
+recorded_to_readied : (p : Program) (events : List Event) (limit : ℕ) (short image : List ℕ) → IsReadied short image → RecoversRecorded p events limit short → RecoversRecorded p events limit image
+recorded_to_readied p events limit short image ready is =
+    let tail : List ℕ = replicate ready.zeros 0 in
+    let r = is.0.recovered in
+    let whole = recovers_longer short tail r is.0.recovers in
+    let which = one_of_two (short ++ tail) r whole in (
+      to_readied p events limit short image ready is.0,
+      apart_recorded p events (short ++ tail) image r IsFieldless whole (recover_readied short image r ready is.0.recovers) (no_fields (short ++ tail) image ready.same)
+          (fieldless_apart r.config r.area which) (fieldless_apart r.config (1 - r.area) (other_of_two r.area which)) (recorded_longer p events short tail r is.0.recovers is.1),
     )
 
 -- whatever may be left of a disk is what might have been left of another one, made ready
@@ -346,7 +406,13 @@ module _ {D O : Type 0} (d : Ghosts D) (o : Ghosts O) where
   fed_stands_readied h (Some bytes) old left is stand = λ image may.
       let was = is image may in
       let k = stand was.0 was.1 in
-      record { all = k.all; begins = k.begins; within = k.within; to = k.to; fed = fed_to_readied h.program k.all k.to was.0 image was.2 k.fed }
+      record { all = k.all; begins = k.begins; within = k.within; to = k.to; held = fed_to_readied h.program k.all k.to was.0 image was.2 k.held }
+
+  pub recorded_stands_readied : (h : Past) (old left : D) → AreReadied d old left → StandsRecorded d h old → StandsRecorded d h left
+  recorded_stands_readied h old left is stand = λ image may.
+      let was = is image may in
+      let k = stand was.0 was.1 in
+      record { all = k.all; begins = k.begins; within = k.within; to = k.to; held = recorded_to_readied h.program k.all k.to was.0 image was.2 k.held }
 
   pub keeps_longer : LengtheningKeeps d o
   keeps_longer h file old left output is stand fed = (stands_readied h old left output is.images stand, fed_stands_readied h file old left is.images fed)
@@ -354,8 +420,8 @@ module _ {D O : Type 0} (d : Ghosts D) (o : Ghosts O) where
 pub tells_longer : {D : Type 0} (d : Ghosts D) → ((disk : D) → d.is_honest disk → IsImage (d.content disk) (d.pending disk) (d.content disk)) → LengthenedTells d
 tells_longer d reads h file old longer honest fed is said =
     let k = fed (d.content old) (reads old honest) in
-    let more = fed_to_readied h.program k.all k.to (d.content old) (d.content longer) is k.fed in
-    tells_from said k.all (d.content longer) more.1 ∙ sym (tells_from said k.all (d.content old) k.fed.1)
+    let more = fed_to_readied h.program k.all k.to (d.content old) (d.content longer) is k.held in
+    tells_from said k.all (d.content longer) more.1 ∙ sym (tells_from said k.all (d.content old) k.held.1)
 
 -- READS BEFORE RECOVERY
 

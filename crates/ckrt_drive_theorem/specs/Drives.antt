@@ -17,7 +17,7 @@ use Rattle.ckrt_disk.specs.Lists.{IsBeginningOf}
 use Rattle.ckrt_recovery.specs.Represents.{Represents}
 use Rattle.ckrt_recovery.specs.View.{view_of}
 use Rattle.ckrt_drive_theorem.specs.ByPlan.{Course, IsByPlanFrom, IsUnbroken, course}
-use Rattle.ckrt_drive_theorem.specs.Together.{IsLeftSince, IsSpared, Past, StandTogether, StandsFed, past}
+use Rattle.ckrt_drive_theorem.specs.Together.{IsLeftSince, IsSpared, Past, StandTogether, StandsFed, StandsRecorded, past}
 
 -- ONE DRIVE
 
@@ -85,6 +85,10 @@ pub record Keeps {D O : Type 0} {d : Ghosts D} {o : Ghosts O} (h : Past) (v : On
   pub fed : StandsFed d v.file h v.start → IsTold v.file v.first.taken opened
       → (at : Stage d o) (disk : D) (output : O) → StopLeaves v.stages v.first at disk output
       → StandsFed d v.file (past h.program h.old (take at.session.acknowledged all) all) disk
+  -- where all that was left before has recorded its events, so has this
+  pub recorded : StandsRecorded d h v.start → (at : Stage d o) (disk : D) (output : O)
+      → StopLeaves v.stages v.first at disk output
+      → StandsRecorded d (past h.program h.old (take at.session.acknowledged all) all) disk
   -- the output holds, durably, what is confirmed of the plain fold's output, and after what is released the old bytes
   pub holds : HoldsOutput o 0 v.last.session.progress.confirmed
       (acknowledged_output h.program all v.last.session) v.last.output
@@ -114,6 +118,21 @@ abbrev pub AllKeep : {D O : Type 0} {d : Ghosts D} {o : Ghosts O} → Past → L
     → Type 0
 AllKeep h [] = Unit {0}
 AllKeep h (v ∷ more) = (k : Keeps h v) × AllKeep (past_behind v k) more
+
+-- WHAT IS RECORDED
+
+-- whatever was left before each has recorded its events
+abbrev pub AllStandRecorded : {D O : Type 0} {d : Ghosts D} {o : Ghosts O} → (h : Past)
+    → (drives : List (OneDrive d o)) → AllKeep h drives → Type 0
+AllStandRecorded h [] keep = Unit {0}
+AllStandRecorded {d = d} h (v ∷ more) keep =
+    StandsRecorded d h v.start × AllStandRecorded (past_behind v keep.0) more keep.1
+
+-- It is so of each where it is so of the first.
+abbrev pub DrivesStandRecorded : {D O : Type 0} → Ghosts D → Ghosts O → Type 0
+DrivesStandRecorded d o =
+    (h : Past) (v : OneDrive d o) (more : List (OneDrive d o)) → StandsRecorded d h v.start
+    → ComeBehind v more → (keep : AllKeep h (v ∷ more)) → AllStandRecorded h (v ∷ more) keep
 
 -- WITH AN INPUT
 

@@ -6,7 +6,7 @@ use Rattle.ckrt_disk.specs.declared.disk.Disk.{Ghosts}
 use Rattle.ckrt_drive.specs.Offset.{offset_from}
 use Rattle.ckrt_stored.specs.Recovery.{Recovered, Recovers}
 use Rattle.ckrt_stored.specs.Schedules.{NotesAt}
-use Rattle.ckrt_drive_theorem.specs.Together.{Past, StandTogether, StandsFed}
+use Rattle.ckrt_drive_theorem.specs.Together.{Past, StandTogether, StandsFed, StandsRecorded}
 
 -- an image with zeros after its bytes
 pub record IsLonger (short image : List ℕ) : Type 0 where
@@ -37,6 +37,12 @@ LengtheningKeeps {D = D} {O = O} d o =
     (h : Past) (file : Option (List ℕ)) (old left : D) (output : O) → IsLengthened d old left
     → StandTogether d o h old output → StandsFed d file h old
     → StandTogether d o h left output × StandsFed d file h left
+
+-- and has recorded its events as before
+abbrev pub LengtheningRecords : {D : Type 0} → Ghosts D → Type 0
+LengtheningRecords {D = D} d =
+    (h : Past) (old left : D) → IsLengthened d old left → StandsRecorded d h old
+    → StandsRecorded d h left
 
 -- and it tells as much of its input as before
 abbrev pub LengthenedTells : {D : Type 0} → Ghosts D → Type 0

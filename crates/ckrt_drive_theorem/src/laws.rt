@@ -7,10 +7,10 @@ ghost use Rattle.ckrt_drive.specs.Steps.{Aim, Steps, accepted_in};
 ghost use Rattle.ckrt_drive.specs.declared.fault.DriveFault.{DriveFault};
 ghost use Rattle.ckrt_drive.specs.declared.step_done.StepDone.{StepDone};
 ghost use Rattle.ckrt_drive_theorem.specs.ByPlan.{AreOfTheUnbroken, AreOneList, IsUnbrokenOnce};
-ghost use Rattle.ckrt_drive_theorem.specs.Drives.{AllKeep, AreTold, ComeBehind, EndUnbroken, GoByPlan, IsDrive, OneDrive, StopLeaves};
+ghost use Rattle.ckrt_drive_theorem.specs.Drives.{AllKeep, AreTold, ComeBehind, DrivesStandRecorded, EndUnbroken, GoByPlan, IsDrive, OneDrive, StopLeaves};
 ghost use Rattle.ckrt_drive_theorem.specs.Giving.{DrivesGiveFile};
 ghost use Rattle.ckrt_drive_theorem.specs.Inputs.{EndBehindAll, GiveBeginning};
-ghost use Rattle.ckrt_drive_theorem.specs.Together.{HoldTogether, IsLeftSince, IsSpared, Past, StandTogether, StandsFed, past};
+ghost use Rattle.ckrt_drive_theorem.specs.Together.{HoldTogether, IsLeftSince, IsSpared, Past, StandTogether, StandsFed, StandsRecorded, past};
 ghost use Rattle.ckrt_drive_theorem.specs.Turns.{DrivesGiveTurns, PlansGiveTurns};
 ghost use Rattle.ckrt_events.specs.declared.event.Event.{Event};
 ghost use Rattle.ckrt_stored.specs.Programs.{Program, RecoversToStart};
@@ -63,6 +63,15 @@ pub fn drives_hold_together<D: Disk, O: Disk>(disk: &D, output: &O)
         (more : List (OneDrive D.Disk O.Disk)) → first.start ≡ disk.now
         → first.first.output ≡ output.now → StandTogether D.Disk O.Disk h disk.now output.now
         → IsDrive first → ComeBehind first more → AllKeep h (first ∷ more) }
+{}
+
+/// Whatever a stop leaves of a disk has recorded just the events that it recovers to: its areas were written with the states of the plain fold
+/// behind the first of them, and its journals have those that follow.
+pub fn drives_record_their_events<D: Disk, O: Disk>(disk: &D)
+    ensures formatted { (p : Program) (old : List ℕ)
+        → ((image : List ℕ) → MayBeLeft D.Disk disk.now image → RecoversToStart p image)
+        → StandsRecorded D.Disk (past p old [] []) disk.now }
+    ensures many { DrivesStandRecorded D.Disk O.Disk }
 {}
 
 /// Drives with an input, each told what the record of its disk says. Whatever a stop leaves of a disk keeps what its events took, and a

@@ -3,16 +3,18 @@ ghost use Rattle.std.specs.Prelude.{Bool, List};
 ghost use Rattle.ckrt_disk.specs.Frame.{IsOnlyRead};
 ghost use Rattle.ckrt_drive.specs.Stages.{Stage};
 ghost use Rattle.ckrt_drive_theorem.specs.Drives.{StopLeaves};
-ghost use Rattle.ckrt_drive_theorem.specs.Lengthening.{LengthenedTells, LengtheningKeeps, RecoverReadied};
+ghost use Rattle.ckrt_drive_theorem.specs.Lengthening.{LengthenedTells, LengtheningKeeps, LengtheningRecords, RecoverReadied};
 ghost use Rattle.ckrt_drive_theorem.specs.Together.{IsLeftSince};
 
 use ckrt_disk::Disk;
 
 /// A disk that is made longer has zeros after its bytes, and one that notes its schedule has other bytes where that stands. Whatever a stop
-/// meanwhile leaves recovers as before, so the same command goes on; it goes with the output as before, and tells as much of its input.
+/// meanwhile leaves recovers as before, so the same command goes on; it goes with the output as before, has recorded the same events, and tells as much of
+/// its input.
 pub fn longer_disks_are_the_same<D: Disk, O: Disk>()
     ensures recover { RecoverReadied }
     ensures keep { LengtheningKeeps D.Disk O.Disk }
+    ensures record { LengtheningRecords D.Disk }
     ensures tell { LengthenedTells D.Disk }
 {}
 
