@@ -1,12 +1,12 @@
 -- What a drive has beside its disk: its input, and the history that it keeps, which gets what it lacks of the disk before the drive begins.
-use Rattle.std.specs.Prelude.{◌≡◌, ◌⊎◌, ℕ, List, Option, Some, None, option_map, Result, Ok, Err, IfErr, IfOk}
-use Rattle.ckrt_disk.specs.Frame.{AtAnyMoment, IsSameDisk}
+use Rattle.std.specs.Prelude.{◌≡◌, ◌⊎◌, ℕ, true, false, List, Option, Some, None, option_map, Result, Ok, Err, IfErr, IfOk, IsOk}
+use Rattle.ckrt_disk.specs.Disk.{HasFailed}
 use Rattle.ckrt_disk.specs.declared.disk.Disk.{Ghosts}
 use Rattle.ckrt_recovery.specs.Opening.{IsSyncedAndRead}
 use Rattle.ckrt_stored.specs.Write.{IsDurable}
-use Rattle.ckrt_history.specs.Either.{IsJoining, TellsJoined}
-use Rattle.ckrt_history.specs.Joining.{is_disk_fault}
-use Rattle.ckrt_history.specs.Opening.{IsOpenedOn, file_after}
+use Rattle.ckrt_history.specs.Either.{TellsJoined}
+use Rattle.ckrt_history.specs.Joining.{is_disk_fault, is_file_fault}
+use Rattle.ckrt_history.specs.Opening.{IsOpenedOn, IsOpening, file_after}
 use Rattle.ckrt_history.specs.Opening as opening
 use Rattle.ckrt_history.specs.declared.join_fault.JoinFault.{JoinFault}
 use Rattle.ckrt_history.specs.declared.join_fault.JoinFault.TheVariants as join
@@ -50,9 +50,9 @@ fault_of join.HistoryDiffers = job.HistoryDiffers
 -- A file that had so many bytes was given the history of a disk, which was synced first and then only read; or why it wasn't.
 pub record OpensKept {D : Type 0} (d : Ghosts D) (bytes : ℕ) (start disk file : D)
     (made : Result (KeptHistory D d) (Unkept D)) : Type 0 where
-  -- what a stop at any moment leaves of the file
-  pub any_moment : d.is_honest disk
-      → AtAnyMoment d file (file_after made) (IsJoining (d.content start) d file)
+  -- in which order, and so what a stop at any moment leaves of both; where it was opened the sync didn't fail
+  pub order : (it : IsOpening d d start disk file (file_after made))
+      × (IsOk made → it.failed ≡ false)
   pub synced : IsSyncedAndRead d start disk (is_disk_fault (opening.fault_of made))
   pub refused : IfErr (opening.fault_of made) (λ fault.
       d.is_honest disk → d.is_honest (file_after made)
@@ -60,7 +60,8 @@ pub record OpensKept {D : Type 0} (d : Ghosts D) (bytes : ℕ) (start disk file 
   pub opened : IfOk made (λ it. d.is_honest disk → d.is_honest it.file
       → IsOpenedOn (d.content start) (d.content file) it)
   pub durable : IfOk made (λ it. d.is_honest it.file → IsDurable d it.file)
-  pub same : IsSameDisk d file (file_after made)
+  pub failed : is_file_fault (opening.fault_of made) ≡ true
+      → HasFailed (d.failures file) (d.failures (file_after made))
 
 -- the files of a disk that can't have its history
 abbrev pub left_unkept : {D : Type 0} → Option (Intake D) → Unkept D → Left D

@@ -1,11 +1,11 @@
 -- What a drive's history has beside what its disk recovers to.
-use Rattle.std.proofs.Common.{◌≡◌, ◌⊎◌, inl, inr, ⊎_elim, ℕ, ◌-◌, ◌≤◌, Bool, true, false, List, [], ◌∷◌, ◌++◌, length, take, drop, Result, Ok, Err, refl, sym, ◌∙◌, ap, subst, arith, append-nil, length-append, length-drop}
+use Rattle.std.proofs.Common.{◌≡◌, ◌⊎◌, inl, inr, ⊎_elim, ℕ, ◌-◌, ◌≤◌, Bool, true, false, List, [], ◌∷◌, ◌++◌, length, take, drop, Result, Ok, Err, refl, sym, ◌∙◌, ap, subst, arith, length-append, length-drop}
 use Rattle.std.proofs.lemmas.List.{drop-append-le, take-append-drop, take-append-le, take_all, length-take-le}
 use Rattle.ckrt_disk.specs.Disk.{IsImage}
 use Rattle.ckrt_disk.specs.Frame.{MayBeLeft}
 use Rattle.ckrt_disk.specs.Lists.{IsBeginningOf}
 use Rattle.ckrt_disk.specs.declared.disk.Disk.{Ghosts}
-use Rattle.ckrt_disk.proofs.ListLemmas.{begins_itself, begins_more, begins_through, take_begins, taken_begins}
+use Rattle.ckrt_disk.proofs.ListLemmas.{begins_itself, begins_through, take_begins, taken_begins}
 use Rattle.ckrt_events.specs.declared.event.Event.{Event}
 use Rattle.ckrt_look_recording.specs.Recording.{Recorded}
 use Rattle.ckrt_look_recording.proofs.RecordedLemmas as recordings
@@ -91,9 +91,9 @@ module _ {D O : Type 0} {d : Ghosts D} (o : Ghosts O) (options : Options) (w : S
 same_acknowledged : {D : Type 0} {d : Ghosts D} (events more : List Event) (s t : Session D d) → s.acknowledged ≤ length events → t.acknowledged ≡ s.acknowledged → acknowledged_of (events ++ more) t ≡ acknowledged_of events s
 same_acknowledged events more s t within same = ap (λ n. take n (events ++ more)) same ∙ take-append-le s.acknowledged events more within
 
--- all are
-all_of : {D : Type 0} {d : Ghosts D} (events : List Event) (t : Session D d) → t.acknowledged ≡ length events → acknowledged_of (events ++ []) t ≡ events
-all_of events t all = ap (λ (l : List Event). take t.acknowledged l) (append-nil events) ∙ take_all t.acknowledged events (omega (arith, all))
+-- all are, but for those that come then
+all_of : {D : Type 0} {d : Ghosts D} (events more : List Event) (t : Session D d) → t.acknowledged ≡ length events → acknowledged_of (events ++ more) t ≡ events
+all_of events more t all = take-append-le t.acknowledged events more (omega (arith, all)) ∙ take_all t.acknowledged events (omega (arith, all))
 
 module _ {D O K : Type 0} {d : Ghosts D} {o : Ghosts O} {k : Ghosts K} (options : Options) (p : Program) (r : Recorded) (from : ℕ) (events : List Event) (x y : KeepingStage d o k)
     (reps : Represents p events x.stage.session) (has : HasAcknowledged r from events x) where
@@ -146,7 +146,7 @@ module _ {D O K : Type 0} {d : Ghosts D} {o : Ghosts O} {k : Ghosts K} (options 
       let after = after_commit x.stage.session.pending.items refl keeps honest in
       record {
         begun = omega (arith, has.begun, reps.acknowledged, all);
-        ends = subst (λ (l : List Event). EndsAt y.place (k.content y.file) (grown r from l)) (sym (all_of events y.stage.session all)) after.0;
+        ends = subst (λ (l : List Event). EndsAt y.place (k.content y.file) (grown r from l)) (sym (all_of events [] y.stage.session all)) after.0;
         durable = after.1;
       }
 
@@ -156,7 +156,7 @@ module _ {D O K : Type 0} {d : Ghosts D} {o : Ghosts O} {k : Ghosts K} (options 
   abbrev IsKeptBy : Result StepDone DriveFault → Result (Unit {0}) KeepingFault → Type 0
   IsKeptBy result kept = Keeps k x.place (owed_by result x.stage.session.pending.items) x.file y.file y.place kept
 
-  step_kept : (w : Supply) (result : Result StepDone DriveFault) → Makes w result → IsKeptBy result (Ok tt) → k.is_honest y.file → HasAcknowledged r from (events ++ accepted_in result) y
+  pub step_kept : (w : Supply) (result : Result StepDone DriveFault) → Makes w result → IsKeptBy result (Ok tt) → k.is_honest y.file → HasAcknowledged r from (events ++ accepted_in result) y
   step_kept w result steps keeps honest = elim (still o options w x.stage.session y.stage.session x.stage.output y.stage.output result steps) [
     | inl quiet ↦ quiet_kept (accepted_in result) quiet.0 (none_owed (Ok tt) (owed_by result x.stage.session.pending.items) quiet.1 keeps)
     | inr is ↦ subst (λ z. HasAcknowledged r from (events ++ accepted_in z) y) (sym is)
@@ -166,7 +166,7 @@ module _ {D O K : Type 0} {d : Ghosts D} {o : Ghosts O} {k : Ghosts K} (options 
   -- AT EACH MOMENT
 
   -- whatever a stop may leave of the file before the step
-  left_before : (file : List ℕ) → MayBeLeft k x.file file → HasHistory file (grown r from few)
+  pub left_before : (file : List ℕ) → MayBeLeft k x.file file → HasHistory file (grown r from few)
   left_before file left = subst (λ (l : List ℕ). HasHistory l (grown r from few)) (sym (left_durable k x.file file has.durable left)) has.ends.has
 
   module _ (file_law : (disk : K) (image : List ℕ) → k.is_honest disk → k.left_since disk (k.moment disk) image → IsImage (k.content disk) (k.pending disk) image) (honest : k.is_honest x.file) where
@@ -184,6 +184,22 @@ module _ {D O K : Type 0} {d : Ghosts D} {o : Ghosts O} {k : Ghosts K} (options 
         (λ (ends : _). inr (subst (λ (q : Recorded). HasHistory file q) (with_pending (byte ∷ more) is) ends.has))
         (grew.2 (grown r from few) (subst (λ (l : List ℕ). EndsAt x.place l (grown r from few)) (sym (left_durable k x.file grew.0 has.durable grew.1)) has.ends)))
         ((keeps.0.any_moment honest_then).each (k.moment x.file) file (omega arith) left)
+
+    -- so whatever a stop leaves of it behind the step has all that was acknowledged before, and no more than is now
+    pub left_after : (w : Supply) (result : Result StepDone DriveFault) (kept : Result (Unit {0}) KeepingFault) → Makes w result → IsKeptBy result kept → k.is_honest y.file → (file : List ℕ) → k.left_since y.file (k.moment x.file) file
+        → (front : List Event) × IsBeginningOf few front × IsBeginningOf front (acknowledged_of (events ++ accepted_in result) y.stage.session) × HasHistory file (grown r from front)
+    left_after w result kept steps keeps honest_then file left =
+        let accepted = accepted_in result in
+        let still_few = taken_begins x.stage.session.acknowledged y.stage.session.acknowledged events accepted reps.acknowledged steps.accepts.acknowledged in
+        elim (still o options w x.stage.session y.stage.session x.stage.output y.stage.output result steps) [
+          | inl quiet ↦ (few, begins_itself few, still_few, left_still file (none_owed kept (owed_by result x.stage.session.pending.items) quiet.1 keeps).0 left)
+          | inr is ↦ ⊎_elim
+              (λ (as_before : _). (few, begins_itself few, still_few, as_before))
+              (λ (more : _).
+              let all = commits o options w x.stage.session y.stage.session x.stage.output y.stage.output p events reps (subst (Makes w) is steps) in
+              (events, take_begins x.stage.session.acknowledged events, subst (λ (l : List Event). IsBeginningOf events l) (sym (all_of events accepted y.stage.session all)) (begins_itself events), more))
+              (left_appending kept x.stage.session.pending.items refl (subst (λ z. IsKeptBy z kept) is keeps) honest_then file left)
+        ]
 
     module _ (law : (disk : D) (image : List ℕ) → d.is_honest disk → d.left_since disk (d.moment disk) image → IsImage (d.content disk) (d.pending disk) image)
         (w : Supply) (kept : Result (Unit {0}) KeepingFault) (disk_honest : d.is_honest y.stage.session.disk) (file_honest : k.is_honest y.file) where
@@ -203,30 +219,12 @@ module _ {D O K : Type 0} {d : Ghosts D} {o : Ghosts O} {k : Ghosts K} (options 
           record { all = between.events; recovers = between.to; kept = few; begins = between.begins; has = left_before file might }
 
       -- while the batch is appended
-      appending_few : (result : Result StepDone DriveFault) → Makes w result → (image file : List ℕ) → MayBeLeft d y.stage.session.disk image → HasHistory file (grown r from few) → GoTogether p r from y.stage.session.progress.confirmed image file
-      appending_few result steps image file might is =
-          beside few (events ++ accepted_in result) image file
-          (taken_begins x.stage.session.acknowledged y.stage.session.acknowledged events (accepted_in result) reps.acknowledged steps.accepts.acknowledged)
-          (begins_more few events (accepted_in result) (take_begins x.stage.session.acknowledged events))
-          (steps.accepts.represents disk_honest p events reps) might is
-
-      appending_all : Makes w (Ok Committed) → (image file : List ℕ) → MayBeLeft d y.stage.session.disk image → HasHistory file (grown r from events) → GoTogether p r from y.stage.session.progress.confirmed image file
-      appending_all steps image file might is =
-          let all = commits o options w x.stage.session y.stage.session x.stage.output y.stage.output p events reps steps in
-          beside events (events ++ []) image file
-          (subst (λ (l : List Event). IsBeginningOf events l) (sym (all_of events y.stage.session all)) (begins_itself events))
-          ([], refl)
-          (steps.accepts.represents disk_honest p events reps) might is
-
       appending : (result : Result StepDone DriveFault) → Makes w result → IsKeptBy result kept → (image file : List ℕ) → MayBeLeft d y.stage.session.disk image → k.left_since y.file (k.moment x.file) file
           → GoTogether p r from y.stage.session.progress.confirmed image file
-      appending result steps keeps image file might left = elim (still o options w x.stage.session y.stage.session x.stage.output y.stage.output result steps) [
-        | inl quiet ↦ appending_few result steps image file might (left_still file (none_owed kept (owed_by result x.stage.session.pending.items) quiet.1 keeps).0 left)
-        | inr is ↦ ⊎_elim
-            (λ (as_before : _). appending_few result steps image file might as_before)
-            (λ (more : _). appending_all (subst (Makes w) is steps) image file might more)
-            (left_appending kept x.stage.session.pending.items refl (subst (λ z. IsKeptBy z kept) is keeps) file_honest file left)
-      ]
+      appending result steps keeps image file might left =
+          let all = events ++ accepted_in result in
+          let has = left_after w result kept steps keeps file_honest file left in
+          beside has.0 all image file has.2 (begins_through has.0 (acknowledged_of all y.stage.session) all has.2 (take_begins y.stage.session.acknowledged all)) (steps.accepts.represents disk_honest p events reps) might has.3
 
       pub at_each_moment : (result : Result StepDone DriveFault) → Makes w result → IsKeptBy result kept → AtEachMoment p r from x y
       at_each_moment result steps keeps = record { stepping = stepping result steps; appending = appending result steps keeps }
@@ -239,7 +237,7 @@ kept_honest k place next [] old new kept keeps honest = subst k.is_honest keeps.
 kept_honest k place next (byte ∷ more) old new kept keeps honest = keeps.0.same.honest honest
 
 module _ {D O K : Type 0} {d : Ghosts D} {o : Ghosts O} {k : Ghosts K} (options : Options) where
-  advance_honest : (x y : KeepingStage d o k) (kept : Result (Unit {0}) KeepingFault) → Advances options x y kept → k.is_honest y.file → k.is_honest x.file
+  pub advance_honest : (x y : KeepingStage d o k) (kept : Result (Unit {0}) KeepingFault) → Advances options x y kept → k.is_honest y.file → k.is_honest x.file
   advance_honest x y kept advances honest = kept_honest k x.place y.place (owed_by advances.step.result x.stage.session.pending.items) x.file y.file kept advances.keeps honest
 
   all_honest : (stages : List (KeepingStage d o k)) (x y : KeepingStage d o k) → GoesKeeping options stages x y → d.is_honest y.stage.session.disk → k.is_honest y.file → d.is_honest x.stage.session.disk × k.is_honest x.file

@@ -17,5 +17,12 @@ pub mod BringLemmas
 pub mod EitherLemmas
 pub mod KeepLemmas
 pub mod KeepRunLemmas
+pub mod RanLemmas
 pub mod OpeningLemmas
 pub mod KeptLemmas
+pub mod TheirsLemmas
+pub mod WhoseLemmas
+pub mod StandLemmas
+pub mod OpenedLemmas
+pub mod BesideLemmas
+pub mod ManyLemmas

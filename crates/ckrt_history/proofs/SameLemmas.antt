@@ -13,7 +13,8 @@ use Rattle.ckrt_stored.specs.Areas.{area_of, checked_area, is_in_range, is_known
 use Rattle.ckrt_stored.specs.Layout.{area_at, header_in, header_of, is_valid, journal_at, journal_of, memory_at, memory_of, memory_size, size_needed, tables_at, tables_of}
 use Rattle.ckrt_stored.proofs.AreaLemmas.{IsInUse, is_in_use}
 use Rattle.ckrt_stored.proofs.WriteLemmas.{area_within, some_pages}
-use Rattle.ckrt_look_recording.specs.Recording.{BeginsNewer, BeginsOlder, HasBefore, HasInArea, IsOlder, Recorded, RecordsFrom}
+use Rattle.ckrt_stored.specs.Recorded.{IsOlder}
+use Rattle.ckrt_look_recording.specs.Recording.{BeginsNewer, BeginsOlder, HasBefore, HasInArea, Recorded, RecordsFrom}
 
 -- two images have the same parts in the bytes of areas and journals
 abbrev pub HaveSameParts : Config → (old new : List ℕ) → Type 0

@@ -13,3 +13,4 @@ pub mod Either
 pub mod Keeping
 pub mod Kept
 pub mod Opening
+pub mod Many

@@ -3,6 +3,7 @@ ghost use Rattle.ckrt_history.specs.Appending.{AppendedHasMore};
 ghost use Rattle.ckrt_history.specs.Either.{IsHistoryByFront};
 ghost use Rattle.ckrt_history.specs.History.{HasNoFault, IsRecordedOnce};
 ghost use Rattle.ckrt_history.specs.Kept.{BeginsAtEnd, GoesOnTogether, KeepsOn};
+ghost use Rattle.ckrt_history.specs.Many.{BeginBeside, KeepsTheAcknowledged, RecordingsAreTheirs, RunsStandBeside};
 
 use ckrt_disk::Disk;
 
@@ -33,3 +34,20 @@ pub fn drives_keep_histories<D: Disk, O: Disk, K: Disk>()
     ensures keep { KeepsOn D.Disk O.Disk K.Disk }
     ensures together { GoesOnTogether D.Disk O.Disk K.Disk }
 {}
+
+/// An image that has recorded the events to which it recovers has just these, as a look at its recording reads them.
+pub fn recordings_are_theirs()
+    ensures { RecordingsAreTheirs }
+{}
+
+/// Many runs over a disk, an output and the file of a history: the disk is made ready, a history is opened, a drive keeps it or doesn't, each on
+/// what a stop of the one before left of the three, at one moment. Whatever each leaves stands: disk and output hold together, and the history
+/// has just a beginning of the events that are acknowledged. They begin with a formatted disk, any output, and a file that is no history.
+/// Behind a run that kept it the history has all that are acknowledged, durably.
+pub fn runs_stand_beside_a_history<D: Disk, O: Disk, K: Disk>()
+    ensures begin { BeginBeside D.Disk O.Disk K.Disk }
+    ensures stand { RunsStandBeside D.Disk O.Disk K.Disk }
+    ensures acknowledged { KeepsTheAcknowledged D.Disk O.Disk K.Disk }
+{
+    ckrt_drive::recovery_keeps_recorded::<D>();
+}

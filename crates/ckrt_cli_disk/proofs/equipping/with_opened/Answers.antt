@@ -8,7 +8,7 @@ returns-in-Ok-clause-equips g c =
     record {
       disk = c.open_kept.new.disk;
       made = Ok c.in-Ok.history;
-      opens = record { any_moment = e.any_moment; synced = e.disk; refused = e.refused; opened = e.opened; durable = e.durable; same = e.same };
+      opens = record { order = e.opening; synced = e.disk; refused = e.refused; opened = e.opened; durable = e.durable; failed = e.failed };
       ends = (refl, refl);
     }
 
@@ -19,6 +19,6 @@ returns-in-Err-clause-equips g c =
     record {
       disk = c.open_kept.new.disk;
       made = Err c.in-Err.unkept;
-      opens = record { any_moment = e.any_moment; synced = e.disk; refused = e.refused; opened = e.opened; durable = e.durable; same = e.same };
+      opens = record { order = e.opening; synced = e.disk; refused = e.refused; opened = e.opened; durable = e.durable; failed = e.failed };
       ends = (ap Err c.refuse.ensures.told, c.refuse.ensures.closes);
     }
