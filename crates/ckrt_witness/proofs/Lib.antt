@@ -20,3 +20,4 @@ mod AlikeLemmas
 mod LineLemmas
 mod StreamLemmas
 mod DriveTurnLemmas
+mod BesideLemmas

@@ -1,5 +1,6 @@
 pub mod Drives
 pub mod Before
+pub mod Beside
 pub mod Runs
 pub mod Shelf
 pub mod Codes

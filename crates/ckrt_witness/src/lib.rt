@@ -4,6 +4,7 @@
 mod alike;
 mod areas;
 mod before;
+mod beside;
 #[cfg(test)]
 mod closed;
 #[cfg(test)]
@@ -12,6 +13,8 @@ mod closed_alike;
 mod closed_areas;
 #[cfg(test)]
 mod closed_before;
+#[cfg(test)]
+mod closed_beside;
 #[cfg(test)]
 mod closed_codes;
 #[cfg(test)]
@@ -72,6 +75,7 @@ mod words;
 pub use alike::{answer_alike, represent_again, represent_one};
 pub use areas::{change_unused, has_both_open};
 pub use before::{fail_recovery, read_before, stop_before};
+pub use beside::{Unmade, keep_once, two_runs_beside};
 pub use codes::{read_events, read_instruction};
 pub use commands::two_runs;
 pub use drives::{Left, drive_once, two_drives};
