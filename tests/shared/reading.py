@@ -43,3 +43,19 @@ def history(data):
     with contextlib.redirect_stdout(text):
         first, _, length = read_disk.print_history(data)
     return first, re.findall(r"^    \d+ (.*)$", text.getvalue(), re.MULTILINE), length
+
+
+def history_ends(data):
+    """Of the bytes of a history: how many events it has behind each batch of its long journal, and before the first one; and how many bytes it takes there.
+
+    It raises read_disk.Fault where they are none.
+    """
+    text = io.StringIO()
+    with contextlib.redirect_stdout(text):
+        count, _, _ = read_disk.print_history(data)
+    ends, begin = {}, None
+    for event, journal, gate in re.findall(r"^    (\d+) |^long journal at (\d+)|^  (?:batch at|next free) place (\d+)", text.getvalue(), re.MULTILINE):
+        count, begin = int(event or count), int(journal) if journal else begin
+        if gate and begin is not None:
+            ends[count] = begin + int(gate) + 1
+    return ends

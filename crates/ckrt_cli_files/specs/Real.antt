@@ -22,7 +22,7 @@ pub record IsFresh {H : Type 0} {g : Ghosts (RealFile H)} (openings : List (File
   pub opened : opened_of (file_of disk).file ≡ openings
   pub calls : calls_of (file_of disk).file ≡ []
 
--- how many bytes the system told that the file of a disk has, when it was opened
+-- how many bytes the system told that the file of a disk has, when it was opened; or how many one may get that grows while it is looked at
 abbrev pub told_length : {H : Type 0} {g : Ghosts (RealFile H)} → FileDisk (RealFile H) g → ℕ
 told_length disk = (file_of disk).length
 

@@ -75,7 +75,7 @@ fn open_locked<R: Files<File = File>>(rt: &R, path: &str, which: Taken) -> Resul
 }
 
 /// Opens a file to read it, and locks it with other readers: a file that a program may write is refused at once.
-pub(crate) fn open_shared<R: Files<File = File>>(rt: &R, path: &str) -> Result<File, FileFault>
+fn open_shared<R: Files<File = File>>(rt: &R, path: &str) -> Result<File, FileFault>
     ensures { IfOk result IsBesideStreams }
 {
     let file = open_read(rt, path)?;
@@ -83,6 +83,45 @@ pub(crate) fn open_shared<R: Files<File = File>>(rt: &R, path: &str) -> Result<F
         Ok(()) => Ok(file),
         Err(error) => Err(FileFault::from(io::Error::from(error))),
     }
+}
+
+/// A file that is open to be looked at, and whether somebody may append to it meanwhile.
+#[derive(Drop)]
+pub(crate) struct LookedAt {
+    pub(crate) file: File,
+    pub(crate) grows: bool,
+}
+
+/// Whether a file is a history by its first gate and its name.
+fn is_history(file: &File) -> bool {
+    let mut front = [0; 16];
+    match file.read_at(&mut front, 0) {
+        Ok(16) => front[0] == 0xa5 && &front[8..] == b"CKRTHIST".as_slice(),
+        _ => false,
+    }
+}
+
+/// Opens a file to look at it, as [`open_shared`] does. A history may be looked at while a drive has it locked, too: it is only appended to, and
+/// what stands before a closed gate doesn't change any more.
+pub(crate) fn open_to_look<R: Files<File = File>>(rt: &R, path: &str) -> Result<LookedAt, FileFault>
+    ensures { IfOk result (λ it. IsBesideStreams it.file) }
+{
+    match open_shared(rt, path) {
+        Ok(file) => Ok(LookedAt { file, grows: false }),
+        Err(FileFault::InUse) => open_growing(rt, path),
+        Err(fault) => Err(fault),
+    }
+}
+
+/// Opens a history that somebody appends to.
+fn open_growing<R: Files<File = File>>(rt: &R, path: &str) -> Result<LookedAt, FileFault>
+    ensures { IfOk result (λ it. IsBesideStreams it.file) }
+{
+    let file = open_read(rt, path)?;
+    if !is_history(&file) {
+        return Err(FileFault::InUse);
+    }
+    Ok(LookedAt { file, grows: true })
 }
 
 /// The folder of a path.
@@ -189,6 +228,21 @@ pub(crate) fn disk_of<'a, H: Holds>(
         return Err(FileFault::IsADirectory);
     }
     Ok(whole_file(file, &told, opened))
+}
+
+/// The disk of a file that was opened to be looked at, the last of those that were opened. One that grows meanwhile has as many bytes as any file
+/// may get: where it ends its own last gate tells.
+pub(crate) fn disk_looked_at<'a, H: Holds>(
+    looked: LookedAt,
+    opened: Calls<FileUse>,
+) -> Result<RealDisk<'a, H>, FileFault>
+    ensures { IfOk result (IsFreshWhole ⟦<RealDisk<'a, H> as Disk>⟧ opened.made) }
+{
+    if !looked.grows {
+        return disk_of(looked.file, opened);
+    }
+    let file = ToldFile::growing(SystemFile::new(looked.file, opened), OUTPUT_SIZE as u64);
+    Ok(FileDisk::new(file, OUTPUT_SIZE))
 }
 
 /// Fills a file that is shorter than that many bytes up to them. What is no regular file isn't filled.
@@ -404,7 +458,8 @@ pub(crate) fn open_disk_file<R: Files<File = File>>(rt: &R, path: &str) -> Resul
     Ok(file)
 }
 
-/// How many bytes an output has: more than any file. Those after the end of its file count as zeros until they are written.
+/// How many bytes an output has, and a history that is looked at while it grows: more than any file. Those after the end of its file count as zeros until
+/// they are written.
 const OUTPUT_SIZE: usize = i64::MAX as usize;
 
 /// The output of an open file, the last of those that were opened, which grows as it is written, and tells why it fails. What isn't a

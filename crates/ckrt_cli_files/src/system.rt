@@ -7,9 +7,9 @@ ghost use Rattle.ckrt_cli_files.specs.Real.{IsDiskOf, IsFilledOf, IsOpenedAs, Is
 use crate::core_paths::{open_core_file, replace_core};
 use crate::file::{FileFault, FileOpening};
 use crate::files::{
-    beside, disk_of, give_name, longer_disk, look_at_place, open_disk_file, open_filled_file,
-    open_making_file, open_read, open_shared, open_system_history, open_system_input,
-    open_system_output, remove,
+    LookedAt, beside, disk_looked_at, disk_of, give_name, longer_disk, look_at_place,
+    open_disk_file, open_filled_file, open_making_file, open_read, open_system_history,
+    open_system_input, open_system_output, open_to_look, remove,
 };
 use crate::identity::{FileId, leads_to};
 use crate::image_reader::{ImageReader, with_words};
@@ -222,12 +222,12 @@ impl<'a, R: Files<File = File>, D> SystemSources<'a, R, D> {
     }
 
     /// The file of a disk that is looked at, which is remembered.
-    fn look_at_file(&mut self, path: &str) -> Result<File, FileFault>
+    fn look_at_file(&mut self, path: &str) -> Result<LookedAt, FileFault>
         ensures { openings_of self.new ≡ openings_of self.old }
     {
-        let file = open_shared(self.rt, path)?;
-        self.remember(&file);
-        Ok(file)
+        let looked = open_to_look(self.rt, path)?;
+        self.remember(&looked.file);
+        Ok(looked)
     }
 
     /// The file of a disk that is made where it is missing, and filled up to that many bytes. The image is never taken for it.
@@ -326,6 +326,21 @@ impl<'a, R: Files<File = File>, H: Holds> SystemSources<'a, R, RealDisk<'a, H>> 
         let file = file?;
         let noted = self.note(what, path);
         disk_of(file, noted)
+    }
+
+    /// The disk of a file that is looked at, where that was opened, of this path.
+    fn disk_looked_at(
+        &mut self,
+        looked: Result<LookedAt, FileFault>,
+        path: &str,
+    ) -> Result<RealDisk<'a, H>, FileFault>
+        ensures openings { openings_of self.new ≡ openings_of self.old }
+        ensures disk { IfOk result
+            (IsOpenedAs ⟦<RealDisk<'a, H> as Disk>⟧ FileUse.Disk path.now) }
+    {
+        let looked = looked?;
+        let noted = self.note(FileUse::Disk, path);
+        disk_looked_at(looked, noted)
     }
 
     /// The disk that is open, of that many bytes.
@@ -431,8 +446,8 @@ impl<'a, R: Files<File = File>, H: Holds> Sources<'a, ImageReader, RealDisk<'a, 
     }
 
     fn look_at_disk(&mut self, path: &'a str) -> Result<RealDisk<'a, H>, FileFault> {
-        let file = self.look_at_file(path);
-        let opened = self.disk_opened(file, FileUse::Disk, path);
+        let looked = self.look_at_file(path);
+        let opened = self.disk_looked_at(looked, path);
         self.disk = self.disk.with(&FileOpening::of(path, &opened));
         opened
     }

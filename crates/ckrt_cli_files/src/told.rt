@@ -46,7 +46,7 @@ impl<'a> Teller<'a> {
 #[derive(Drop)]
 pub struct ToldFile<'a, F> {
     file: F,
-    /// How many bytes the system told that it has, when it was opened.
+    /// How many bytes the system told that it has, when it was opened; or how many one may get that grows meanwhile.
     length: u64,
     teller: Option<Teller<'a>>,
 }
@@ -60,6 +60,18 @@ impl<'a, F: PositionedFile> ToldFile<'a, F> {
         ToldFile {
             file,
             length: told.len(),
+            teller: None,
+        }
+    }
+
+    /// A file that somebody else appends to, which may get that many bytes.
+    pub(crate) fn growing(file: F, length: u64) -> ToldFile<'a, F>
+        ensures file { result.file ≡ file }
+        ensures length { result.length ≡ length }
+    {
+        ToldFile {
+            file,
+            length,
             teller: None,
         }
     }
