@@ -8,9 +8,9 @@ use Rattle.ckrt_stored.specs.declared.schedule.ScheduleNote.{ScheduleNote}
 use Rattle.ckrt_stored.proofs.ScheduleLemmas.{left_before}
 use Rattle.ckrt_cli_disk.specs.Noting.{Notes}
 use Rattle.ckrt_recovery.specs.Opening.{IsSyncedAndRead}
-use Rattle.ckrt_drive_theorem.specs.Lengthening.{IsLengthened}
-use Rattle.ckrt_drive_theorem.proofs.LengtheningLemmas.{as_it_was, noted_only, readied_through}
-use Rattle.ckrt_drive_theorem.specs.Together.{IsLeftSince}
+use Rattle.ckrt_drive.specs.Lengthening.{IsLengthened}
+use Rattle.ckrt_drive.proofs.LengtheningLemmas.{as_it_was, noted_only, readied_through}
+use Rattle.ckrt_drive.specs.Together.{IsLeftSince}
 
 module _ {D : Type 0} (d : Ghosts D) where
   pub lengthened_through : (old mid left : D) → IsLengthened d old mid → IsLengthened d mid left → IsLengthened d old left

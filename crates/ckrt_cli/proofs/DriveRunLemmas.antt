@@ -23,11 +23,11 @@ use Rattle.ckrt_drive.specs.Offset.{Tells, offset_from}
 use Rattle.ckrt_drive.specs.declared.offset_fault.OffsetFault.{OffsetFault}
 use Rattle.ckrt_drive.specs.declared.offset_fault.OffsetFault.TheVariants.{Unrecovered, NotRecorded}
 use Rattle.ckrt_cli.specs.Runs.{IsJoined, IsRun, ProgramRun, TellsAsBefore, TellsIfLonger, drive_of, way_of_run}
-use Rattle.ckrt_drive_theorem.specs.Drives.{IsToldByRecord}
+use Rattle.ckrt_drive.specs.Drives.{IsToldByRecord}
 use Rattle.ckrt_cli_disk.specs.Noting.{Notes}
 use Rattle.ckrt_stored.specs.declared.schedule.ScheduleNote.{ScheduleNote}
-use Rattle.ckrt_drive_theorem.proofs.DriveLemmas.{disk_honest}
-use Rattle.ckrt_drive_theorem.proofs.LengtheningLemmas.{no_fields, tells_same}
+use Rattle.ckrt_drive.proofs.DriveLemmas.{disk_honest}
+use Rattle.ckrt_drive.proofs.LengtheningLemmas.{no_fields, tells_same}
 use Rattle.ckrt_cli.proofs.JoinedLemmas.{honest_before, reads_as_before}
 
 -- IT IS A DRIVE

@@ -19,16 +19,16 @@ use Rattle.ckrt_cli_disk.specs.declared.feeding.Intake.{Intake}
 use Rattle.ckrt_cli_disk.specs.declared.feeding.Supplied.{Supplied}
 use Rattle.ckrt_cli_reports.specs.declared.fault.JobFault.{JobFault}
 use Rattle.ckrt_cli_files.specs.Sources.{Gives}
-use Rattle.ckrt_drive_theorem.specs.ByPlan.{IsByPlan, IsByPlanFrom, IsUnbroken, course}
-use Rattle.ckrt_drive_theorem.specs.Drives.{HasEnded, IsTold, IsToldByRecord, Keeps, OneDrive, StopLeaves, course_of, past_behind}
-use Rattle.ckrt_drive_theorem.specs.Giving.{GiveFile}
-use Rattle.ckrt_drive_theorem.specs.Lengthening.{IsLengthened}
+use Rattle.ckrt_drive.specs.ByPlan.{IsByPlan, IsByPlanFrom, IsUnbroken, course}
+use Rattle.ckrt_drive.specs.Drives.{HasEnded, IsTold, IsToldByRecord, Keeps, OneDrive, StopLeaves, course_of, past_behind}
+use Rattle.ckrt_drive.specs.Giving.{GiveFile}
+use Rattle.ckrt_drive.specs.Lengthening.{IsLengthened}
 use Rattle.ckrt_cli.specs.Runs.{IsRun, TellsIfLonger, way_of_run}
-use Rattle.ckrt_drive_theorem.specs.Together.{Past, StandsFed}
-use Rattle.ckrt_drive_theorem.proofs.ByPlanLemmas.{end_unbroken, list_by_plan}
-use Rattle.ckrt_drive_theorem.proofs.DriveLemmas.{disk_honest, drive_keeps}
-use Rattle.ckrt_drive_theorem.proofs.FedLemmas.{drive_given, gives, is_told}
-use Rattle.ckrt_drive_theorem.proofs.LengtheningLemmas.{tells_longer, zeros_only}
+use Rattle.ckrt_drive.specs.Together.{Past, StandsFed}
+use Rattle.ckrt_drive.proofs.ByPlanLemmas.{end_unbroken, list_by_plan}
+use Rattle.ckrt_drive.proofs.DriveLemmas.{disk_honest, drive_keeps}
+use Rattle.ckrt_drive.proofs.TakenLemmas.{drive_given, gives, is_told}
+use Rattle.ckrt_drive.proofs.LengtheningLemmas.{tells_longer, zeros_only}
 use Rattle.ckrt_cli.proofs.DriveRunLemmas.{is_run, told_by_record}
 use Rattle.ckrt_cli.proofs.JoinedLemmas.{Joins, honest_before, joins}
 use Rattle.ckrt_cli.specs.Promise.{Common, Drove, HasSchedule, Holds, IsAsBefore, IsKept, as_drive}

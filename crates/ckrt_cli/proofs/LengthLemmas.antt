@@ -17,7 +17,7 @@ use Rattle.ckrt_cli_disk.specs.Driving.{DrivesWay, Way}
 use Rattle.ckrt_cli_reports.specs.Lengths.{fits, lengths_of}
 use Rattle.ckrt_cli_reports.specs.declared.driven.Driven.{Driven}
 use Rattle.ckrt_cli.specs.Lengths.{size_after}
-use Rattle.ckrt_drive_theorem.proofs.StepTogether.{no_longer}
+use Rattle.ckrt_drive.proofs.StepTogether.{no_longer}
 
 -- pieces that begin within the file reach from there on
 grown : (size at : ℕ) (pieces : List (List ℕ)) → at ≤ size → size_after size at pieces ≡ max size (at + length (concat pieces))

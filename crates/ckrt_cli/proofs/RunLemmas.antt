@@ -8,12 +8,12 @@ use Rattle.ckrt_stored.specs.Programs.{Program}
 use Rattle.ckrt_schedule.specs.Next.{AreGiven}
 use Rattle.ckrt_stored.specs.Programs.{start_of}
 use Rattle.ckrt_cli.specs.Performing.{Reach}
-use Rattle.ckrt_drive_theorem.specs.ByPlan.{IsByPlan, course}
-use Rattle.ckrt_drive_theorem.specs.Drives.{past_behind}
-use Rattle.ckrt_drive_theorem.specs.Together.{Past, past}
-use Rattle.ckrt_drive_theorem.proofs.ByPlanLemmas.{by_plan_itself}
-use Rattle.ckrt_drive_theorem.proofs.FedLemmas.{formatted_fed}
-use Rattle.ckrt_drive_theorem.proofs.LeftLemmas.{stands_formatted}
+use Rattle.ckrt_drive.specs.ByPlan.{IsByPlan, course}
+use Rattle.ckrt_drive.specs.Drives.{past_behind}
+use Rattle.ckrt_drive.specs.Together.{Past, past}
+use Rattle.ckrt_drive.proofs.ByPlanLemmas.{by_plan_itself}
+use Rattle.ckrt_drive.proofs.TakenLemmas.{formatted_fed}
+use Rattle.ckrt_drive.proofs.LeftLemmas.{stands_formatted}
 use Rattle.ckrt_cli.specs.Commands.{AllFollow, AllHold, AllKept, DriveIn, GoOn, Leaves, Paths, Run, drive_in}
 use Rattle.ckrt_cli.specs.Promise.{Common, HasSchedule, HoldsBehind, IsKept, as_drive}
 use Rattle.ckrt_cli.proofs.HoldLemmas.{Before, held, left_alone}

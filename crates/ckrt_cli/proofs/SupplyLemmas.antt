@@ -15,9 +15,9 @@ use Rattle.ckrt_cli_reports.specs.declared.fault.JobFault.{JobFault}
 use Rattle.ckrt_cli_reports.specs.declared.fault.JobFault.TheVariants as job
 use Rattle.ckrt_cli_files.specs.Openings.{Openings}
 use Rattle.ckrt_cli_files.specs.Sources.{Gives}
-use Rattle.ckrt_drive_theorem.specs.Lengthening.{IsLengthened}
-use Rattle.ckrt_drive_theorem.specs.Together.{Past, StandTogether, StandsFed}
-use Rattle.ckrt_drive_theorem.proofs.LengtheningLemmas.{AreReadied, fed_stands_readied, keeps_longer, noted_only, stands_readied}
+use Rattle.ckrt_drive.specs.Lengthening.{IsLengthened}
+use Rattle.ckrt_drive.specs.Together.{Past, StandTogether, StandsFed}
+use Rattle.ckrt_drive.proofs.LengtheningLemmas.{AreReadied, fed_stands_readied, keeps_longer, noted_only, stands_readied}
 use Rattle.ckrt_cli.specs.Promise.{HasZerosBehind}
 use Rattle.ckrt_cli.specs.Runs.{IsJoined}
 

@@ -8,10 +8,10 @@ use Rattle.ckrt_stored.specs.Programs.{Program}
 use Rattle.ckrt_cli_words.specs.Jobs.{Driving, Request, drive, request_of_words}
 use Rattle.ckrt_cli_reports.specs.Outside.{Outside}
 use Rattle.ckrt_cli.specs.Performing.{Reach, RunsRequest, RunsWords, Said, means_in}
-use Rattle.ckrt_drive_theorem.specs.Drives.{StopLeaves}
-use Rattle.ckrt_drive_theorem.specs.Lengthening.{IsLengthened}
-use Rattle.ckrt_drive_theorem.specs.Theorem.{Begin}
-use Rattle.ckrt_drive_theorem.specs.Together.{Past, past}
+use Rattle.ckrt_drive.specs.Drives.{StopLeaves}
+use Rattle.ckrt_drive.specs.Lengthening.{IsLengthened}
+use Rattle.ckrt_drive.specs.Theorem.{Begin}
+use Rattle.ckrt_drive.specs.Together.{Past, past}
 use Rattle.ckrt_cli.specs.Coming.{Came, of_path}
 use Rattle.ckrt_cli.specs.Promise.{Common, Drove, HasSchedule, HoldsBehind, IsAsBefore, IsKept, as_drive, drove}
 

@@ -15,13 +15,13 @@ use Rattle.ckrt_cli_disk.specs.Noting.{Notes}
 use Rattle.ckrt_stored.specs.Programs.{output_after}
 use Rattle.ckrt_stored.specs.declared.schedule.ScheduleNote.{ScheduleNote}
 use Rattle.ckrt_cli_words.specs.Jobs.{Driving}
-use Rattle.ckrt_drive_theorem.specs.ByPlan.{IsByPlan, IsUnbroken, course}
-use Rattle.ckrt_drive_theorem.specs.Drives.{HasEnded, Keeps, OneDrive, past_behind}
-use Rattle.ckrt_drive_theorem.specs.Giving.{GiveFile}
-use Rattle.ckrt_drive_theorem.specs.Lengthening.{IsLengthened, IsLonger}
+use Rattle.ckrt_drive.specs.ByPlan.{IsByPlan, IsUnbroken, course}
+use Rattle.ckrt_drive.specs.Drives.{HasEnded, Keeps, OneDrive, past_behind}
+use Rattle.ckrt_drive.specs.Giving.{GiveFile}
+use Rattle.ckrt_drive.specs.Lengthening.{IsLengthened, IsLonger}
 use Rattle.ckrt_cli.specs.Lengths.{size_after}
 use Rattle.ckrt_cli.specs.Runs.{IsRun, drive_of, way_of_run}
-use Rattle.ckrt_drive_theorem.specs.Together.{IsLeftSince, Past}
+use Rattle.ckrt_drive.specs.Together.{IsLeftSince, Past}
 use Rattle.ckrt_cli.specs.Coming.{Came}
 
 -- its drive, and the stage at which that was stopped

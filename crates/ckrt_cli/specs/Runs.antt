@@ -20,7 +20,7 @@ use Rattle.ckrt_cli_disk.specs.declared.equipping.Left.{Left}
 use Rattle.ckrt_drive.specs.Offset.{offset_from}
 use Rattle.ckrt_recovery.specs.View.{view_of}
 use Rattle.ckrt_recovery.specs.declared.session.Session.{Session}
-use Rattle.ckrt_drive_theorem.specs.Drives.{IsDrive, IsToldByRecord, OneDrive}
+use Rattle.ckrt_drive.specs.Drives.{IsDrive, IsToldByRecord, OneDrive}
 
 -- A run of the program: the disk that it recovered, how it was to go, what was beside it as it began and as it ended, the session and the output
 -- before and after it, and what it came to.

@@ -18,6 +18,9 @@
 //! area that it is about to write, before it closes that area's gate; recovery reads the slot of the area that it picked. So no
 //! slot is read while it is written. What was taken is the slot's number and the bytes of the Inputs in the area's journal; of an
 //! area of generation 1 with no event it is 0, without a slot.
+//!
+//! Drives of one disk onto one output, one after another, each stopped at any moment: what they leave, and whose events it has
+//! ([`drives_hold_together`], [`drives_go_by_plan`], [`drives_give_the_file`]).
 #![tactic(auto)]
 
 mod drive;
@@ -25,6 +28,8 @@ mod fault;
 mod feed;
 mod input_laws;
 mod laws;
+mod lengthening;
+mod many_drives;
 mod offset_fault;
 mod onlooker;
 mod options;
@@ -37,6 +42,7 @@ mod step_done;
 mod steps;
 mod stream;
 mod supply;
+mod theorem;
 
 pub use ckrt_schedule::Nobody;
 pub use drive::Drive;
@@ -46,6 +52,12 @@ pub use input_laws::{calls_keep_input, images_tell_offsets, recovery_keeps_input
 pub use laws::{
     checkpoints_find_nothing_pending, no_checkpoint_behind_a_checkpoint, plans_suit_the_version,
     stream_gets_the_output,
+};
+pub use lengthening::{longer_disks_are_the_same, reads_leave_the_same};
+pub use many_drives::{
+    drives_give_the_file, drives_give_turns, drives_go_by_plan, drives_hold_together,
+    drives_record_their_events, planned_input_is_the_file, recoveries_leave_the_same,
+    step_holds_together, what_is_left,
 };
 pub use offset_fault::OffsetFault;
 pub use onlooker::Onlooker;
@@ -57,3 +69,4 @@ pub use slot::{Slot, TAKEN_LIMIT};
 pub use step_done::StepDone;
 pub use stream::StreamOutput;
 pub use supply::Supply;
+pub use theorem::power_may_go;

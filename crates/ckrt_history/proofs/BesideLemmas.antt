@@ -12,7 +12,7 @@ use Rattle.ckrt_stored.specs.Programs.{Program}
 use Rattle.ckrt_drive.specs.Stages.{Stage}
 use Rattle.ckrt_drive.specs.Steps.{accepted_in}
 use Rattle.ckrt_drive.specs.declared.options.Options.{Options}
-use Rattle.ckrt_drive_theorem.specs.Together.{IsLeftSince, past}
+use Rattle.ckrt_drive.specs.Together.{IsLeftSince, past}
 use Rattle.ckrt_history.specs.History.{HasHistory}
 use Rattle.ckrt_history.specs.Keeping.{Advances, Keeps, KeepingStage, owed_by}
 use Rattle.ckrt_history.specs.Kept.{HasAcknowledged, grown}

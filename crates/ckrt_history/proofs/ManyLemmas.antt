@@ -13,12 +13,12 @@ use Rattle.ckrt_recovery.specs.View.{View}
 use Rattle.ckrt_stored.specs.Programs.{Program}
 use Rattle.ckrt_stored.specs.Recorded.{RecoversRecorded}
 use Rattle.ckrt_drive.specs.Recording.{OpensRecorded}
-use Rattle.ckrt_drive_theorem.specs.Drives.{Keeps, OneDrive}
-use Rattle.ckrt_drive_theorem.specs.Together.{Past, StandTogether, StandsRecorded, past}
-use Rattle.ckrt_drive_theorem.proofs.DriveLemmas.{drive_keeps, itself}
-use Rattle.ckrt_drive_theorem.proofs.LeftLemmas.{stands_formatted}
-use Rattle.ckrt_drive_theorem.proofs.LengtheningLemmas.{recorded_stands_readied, stands_readied}
-use Rattle.ckrt_drive_theorem.proofs.RecordingLemmas.{formatted_recorded}
+use Rattle.ckrt_drive.specs.Drives.{Keeps, OneDrive}
+use Rattle.ckrt_drive.specs.Together.{Past, StandTogether, StandsRecorded, past}
+use Rattle.ckrt_drive.proofs.DriveLemmas.{drive_keeps, itself}
+use Rattle.ckrt_drive.proofs.LeftLemmas.{stands_formatted}
+use Rattle.ckrt_drive.proofs.LengtheningLemmas.{recorded_stands_readied, stands_readied}
+use Rattle.ckrt_drive.proofs.RecordingLemmas.{formatted_recorded}
 use Rattle.ckrt_history.specs.Appending.{EndsAt}
 use Rattle.ckrt_history.specs.Keeping.{KeepingStage, keeping_stage}
 use Rattle.ckrt_history.specs.Kept.{IsKept, grown}

@@ -15,9 +15,9 @@ use Rattle.ckrt_stored.specs.Layout.{is_open, number_at}
 use Rattle.ckrt_stored.specs.Programs.{RecoversTo}
 use Rattle.ckrt_stored.specs.Recorded.{HasRecorded, RecoversRecorded}
 use Rattle.ckrt_drive.proofs.RecordedLemmas.{recorded_as_recovered}
-use Rattle.ckrt_drive_theorem.specs.Together.{HoldsBetween, Past, StandTogether, StandsRecorded, past}
-use Rattle.ckrt_drive_theorem.proofs.DriveLemmas.{itself}
-use Rattle.ckrt_drive_theorem.proofs.FedSteps.{begins_once}
+use Rattle.ckrt_drive.specs.Together.{HoldsBetween, Past, StandTogether, StandsRecorded, past}
+use Rattle.ckrt_drive.proofs.DriveLemmas.{itself}
+use Rattle.ckrt_drive.proofs.FedSteps.{begins_once}
 use Rattle.ckrt_history.specs.Appending.{EndsAt, open_of}
 use Rattle.ckrt_history.specs.Beginning.{IsClosedOrBegun}
 use Rattle.ckrt_history.specs.Completing.{IsGrownFrom, missing_of, with_events}

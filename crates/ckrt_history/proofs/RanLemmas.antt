@@ -5,8 +5,8 @@ use Rattle.ckrt_disk.specs.declared.disk.Disk.{Ghosts}
 use Rattle.ckrt_recovery.specs.Recovered.{IsRecovered}
 use Rattle.ckrt_drive.specs.Stages.{Stage, stage}
 use Rattle.ckrt_drive.specs.declared.options.Options.{Options}
-use Rattle.ckrt_drive_theorem.specs.Drives.{IsDrive}
-use Rattle.ckrt_drive_theorem.specs.Together.{IsLeftSince}
+use Rattle.ckrt_drive.specs.Drives.{IsDrive}
+use Rattle.ckrt_drive.specs.Together.{IsLeftSince}
 use Rattle.ckrt_history.specs.Keeping.{Advances, EndsKeeping, GoesKeeping, KeepingStage, RanKeeping, keeping_stage, stages_with}
 use Rattle.ckrt_history.specs.Many.{AdvancesAll, StopLeavesBeside, Three}
 use Rattle.ckrt_history.specs.declared.keeping.Kept.{Kept}

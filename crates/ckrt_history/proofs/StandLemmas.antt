@@ -18,11 +18,11 @@ use Rattle.ckrt_drive.specs.Stages.{IsStep, Stage}
 use Rattle.ckrt_drive.specs.Steps.{accepted_in, aim_of}
 use Rattle.ckrt_drive.specs.declared.options.Options.{Options}
 use Rattle.ckrt_drive.proofs.RecordLemmas.{recorded_kept}
-use Rattle.ckrt_drive_theorem.specs.Drives.{IsDrive, Keeps, OneDrive, StopLeaves}
-use Rattle.ckrt_drive_theorem.specs.Together.{HoldTogether, IsLeftSince, IsSpared, Past, StandTogether, StandsRecorded, past}
-use Rattle.ckrt_drive_theorem.proofs.DriveLemmas.{drive_keeps}
-use Rattle.ckrt_drive_theorem.proofs.FedSteps.{begins_once, since_has, still_has, stop_has}
-use Rattle.ckrt_drive_theorem.proofs.StepTogether.{no_longer, now_together, spared_after, step_together}
+use Rattle.ckrt_drive.specs.Drives.{IsDrive, Keeps, OneDrive, StopLeaves}
+use Rattle.ckrt_drive.specs.Together.{HoldTogether, IsLeftSince, IsSpared, Past, StandTogether, StandsRecorded, past}
+use Rattle.ckrt_drive.proofs.DriveLemmas.{drive_keeps}
+use Rattle.ckrt_drive.proofs.FedSteps.{begins_once, since_has, still_has, stop_has}
+use Rattle.ckrt_drive.proofs.StepTogether.{no_longer, now_together, spared_after, step_together}
 
 -- with fewer outputs that may be left
 pub fewer_outputs : (h : Past) (image : List ℕ) (Y Z : List ℕ → Type 0) → ((output : List ℕ) → Z output → Y output) → HoldTogether h image Y → HoldTogether h image Z

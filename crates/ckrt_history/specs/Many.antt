@@ -6,9 +6,9 @@ use Rattle.ckrt_disk.specs.Lists.{IsBeginningOf}
 use Rattle.ckrt_disk.specs.declared.disk.Disk.{Ghosts}
 use Rattle.ckrt_drive.specs.Stages.{Stage}
 use Rattle.ckrt_drive.specs.declared.options.Options.{Options}
-use Rattle.ckrt_drive_theorem.specs.Drives.{IsDrive, OneDrive, StopLeaves}
-use Rattle.ckrt_drive_theorem.specs.Lengthening.{IsLengthened}
-use Rattle.ckrt_drive_theorem.specs.Together.{IsLeftSince, Past, StandTogether, StandsRecorded, past}
+use Rattle.ckrt_drive.specs.Drives.{IsDrive, OneDrive, StopLeaves}
+use Rattle.ckrt_drive.specs.Lengthening.{IsLengthened}
+use Rattle.ckrt_drive.specs.Together.{IsLeftSince, Past, StandTogether, StandsRecorded, past}
 use Rattle.ckrt_events.specs.declared.event.Event.{Event}
 use Rattle.ckrt_recovery.specs.Represents.{Represents, acknowledged_of}
 use Rattle.ckrt_stored.specs.Programs.{Program, RecoversToStart, state_after}

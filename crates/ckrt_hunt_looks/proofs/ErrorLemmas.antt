@@ -12,7 +12,7 @@ use Rattle.ckrt_look_heap.specs.declared.finding.Finding.{Finding}
 use Rattle.ckrt_look_heap.specs.declared.shadow.Note.{Note}
 use Rattle.ckrt_look_heap.specs.declared.shadow.Note.TheVariants as note
 use Rattle.ckrt_look_heap.specs.Parts.{Room, split, split_at, split_for, taking}
-use Rattle.ckrt_look_steps.specs.Rooms.{slots_in, words_of}
+use Rattle.ckrt_look_calls.specs.Rooms.{slots_in, words_of}
 use Rattle.ckrt_look_heap.specs.Recorded.{FillsRoom, fresh_for}
 use Rattle.ckrt_look_heap.specs.Shadow.{Found, Heap, behind, ended, few, freed_as, given_back, head_of, if_told, is_begin, part_of, used_as, with_error, wrong}
 use Rattle.ckrt_look_heap.specs.Steps.{has_ended, of_event, of_events}

@@ -5,7 +5,7 @@ use Rattle.ckrt_events.specs.Bytes.{IsInRange}
 use Rattle.ckrt_events.specs.declared.event.Event.{Event}
 use Rattle.ckrt_machine.specs.Events.{AllAccepted, step}
 use Rattle.ckrt_machine.specs.Steps.{State}
-use Rattle.ckrt_look_steps.specs.Rooms.{words_of}
+use Rattle.ckrt_look_calls.specs.Rooms.{words_of}
 use Rattle.ckrt_look_heap.specs.Steps.{of_events}
 use Rattle.ckrt_look_heap.proofs.OnlyLemmas.{only_errors as only_errors_told}
 use Rattle.ckrt_look_races.proofs.CycleLemmas.{only_cycles_told}

@@ -15,7 +15,7 @@ use Rattle.ckrt_look_clocks.specs.Within.{Detected, fresh_within, is_full, noted
 use Rattle.ckrt_look_clocks.proofs.SufficeLemmas.{behind_size}
 use Rattle.ckrt_look_clocks.proofs.WithinLemmas.{nothing_left_out, noted_full, noted_open, within_none, within_some}
 use Rattle.ckrt_look_races.specs.Holders.{HOLDERS}
-use Rattle.ckrt_look_steps.specs.Rooms.{slots_in, words_of}
+use Rattle.ckrt_look_calls.specs.Rooms.{slots_in, words_of}
 use Rattle.ckrt_look_races.specs.Recorded.{FillsRoom, fresh_for}
 use Rattle.ckrt_look_races.specs.Steps.{of_event, of_events}
 use Rattle.ckrt_look_races.proofs.BehindLemmas.{behind_both}

@@ -2,3 +2,8 @@ pub mod AppendLemmas
 pub mod RowLemmas
 pub mod RunLemmas
 pub mod StretchLemmas
+pub mod FullLemmas
+pub mod PartLemmas
+pub mod WalkLemmas
+pub mod CallerLemmas
+pub mod ReplayLemmas

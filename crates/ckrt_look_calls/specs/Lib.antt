@@ -3,3 +3,9 @@ pub mod Stretches
 pub mod Recorded
 pub mod Events
 pub mod Lines
+pub mod Steppings
+pub mod Walks
+pub mod Rooms
+pub mod Replays
+pub mod Moments
+pub mod Rows

@@ -7,7 +7,7 @@ use Rattle.ckrt_look_heap.specs.declared.block.Cell.{Cell}
 use Rattle.ckrt_look_heap.specs.declared.block.Cell.TheVariants as cell
 use Rattle.ckrt_look_heap.specs.declared.block.Change.{Change}
 use Rattle.ckrt_look_heap.specs.declared.block.Change.TheVariants as change
-use Rattle.ckrt_look_steps.specs.declared.moment.Moment.{Moment}
+use Rattle.ckrt_look_calls.specs.declared.moment.Moment.{Moment}
 use Rattle.ckrt_look_heap.specs.Parts.{altered, altered_at}
 use Rattle.ckrt_look_heap.specs.Shadow.{changed_by, disowned, filled}
 

@@ -6,7 +6,7 @@ use Rattle.ckrt_look_heap.specs.declared.block.Cell.{Cell}
 use Rattle.ckrt_look_heap.specs.declared.block.Cell.TheVariants as cell
 use Rattle.ckrt_look_heap.specs.declared.block.Change.{Change}
 use Rattle.ckrt_look_heap.specs.declared.block.Change.TheVariants as change
-use Rattle.ckrt_look_steps.specs.declared.moment.Moment.{Moment}
+use Rattle.ckrt_look_calls.specs.declared.moment.Moment.{Moment}
 use Rattle.ckrt_look_heap.specs.declared.block.Part.{Part}
 use Rattle.ckrt_look_heap.specs.declared.shadow.Note.TheVariants as note
 use Rattle.ckrt_look_heap.specs.Notes.{unless_in_heap}

@@ -5,7 +5,7 @@ use Rattle.std.proofs.lemmas.List.{length-replicate, length-set}
 use Rattle.ckrt_look_heap.specs.declared.block.Access.{Access}
 use Rattle.ckrt_look_heap.specs.declared.block.Cell.{Cell}
 use Rattle.ckrt_look_heap.specs.declared.block.Cell.TheVariants as cell
-use Rattle.ckrt_look_steps.specs.declared.moment.Moment.{Moment}
+use Rattle.ckrt_look_calls.specs.declared.moment.Moment.{Moment}
 use Rattle.ckrt_look_heap.specs.declared.block.Part.{Part}
 use Rattle.ckrt_look_heap.specs.declared.shadow.Note.{Note}
 use Rattle.ckrt_look_heap.specs.declared.shadow.Note.TheVariants as note

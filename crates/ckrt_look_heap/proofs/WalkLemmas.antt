@@ -6,8 +6,8 @@ use Rattle.ckrt_machine.specs.Events as machine
 use Rattle.ckrt_machine.specs.declared.event.RunEnd.{RunEnd}
 use Rattle.ckrt_machine.specs.Runs.{stop_of, with_byte}
 use Rattle.ckrt_machine.specs.Steps.{State, hart_step}
-use Rattle.ckrt_look_steps.specs.Walks as walks
-use Rattle.ckrt_look_steps.specs.Rooms.{slots_in, words_of}
+use Rattle.ckrt_look_calls.specs.Walks as walks
+use Rattle.ckrt_look_calls.specs.Rooms.{slots_in, words_of}
 use Rattle.ckrt_look_heap.specs.Recorded.{FillsRoom, fresh_for, heap_behind}
 use Rattle.ckrt_look_heap.specs.Steps.{after_step, at, has_ended, of_end, of_event, of_events, of_run, of_step, unless_ended}
 use Rattle.ckrt_look_heap.specs.Within.{Noted, is_full, noted_all}

@@ -1,8 +1,8 @@
 -- The second look at an error: what is told of who made it, and of who took its block and gave it back.
 use Rattle.std.specs.Prelude.{ℕ, ◌+◌, ◌*◌, ◌%◌, ◌^◌, List, [], ◌++◌, codes}
-use Rattle.ckrt_look_steps.specs.declared.moment.Moment.{Moment}
-use Rattle.ckrt_look_steps.specs.Moments.{by_text, made_text, taken_line}
-use Rattle.ckrt_look_steps.specs.Replays.{IsBehind, Replay}
+use Rattle.ckrt_look_calls.specs.declared.moment.Moment.{Moment}
+use Rattle.ckrt_look_calls.specs.Moments.{by_text, made_text, taken_line}
+use Rattle.ckrt_look_calls.specs.Replays.{IsBehind, Replay}
 use Rattle.ckrt_look_heap.specs.declared.again.Cursors.{Cursors}
 use Rattle.ckrt_look_heap.specs.declared.block.Block.{Block}
 use Rattle.ckrt_look_heap.specs.declared.block.Cell.{Cell}

@@ -7,7 +7,7 @@ use Rattle.ckrt_look_heap.specs.declared.block.Cell.{Cell}
 use Rattle.ckrt_look_heap.specs.declared.block.Cell.TheVariants as cell
 use Rattle.ckrt_look_heap.specs.declared.block.Deed.{Deed}
 use Rattle.ckrt_look_heap.specs.declared.block.Deed.TheVariants as deed
-use Rattle.ckrt_look_steps.specs.declared.moment.Moment.{Moment}
+use Rattle.ckrt_look_calls.specs.declared.moment.Moment.{Moment}
 use Rattle.ckrt_look_heap.specs.declared.finding.Finding.{Finding}
 use Rattle.ckrt_look_heap.specs.declared.shadow.Note.{Note}
 use Rattle.ckrt_look_heap.specs.declared.shadow.Note.TheVariants as note

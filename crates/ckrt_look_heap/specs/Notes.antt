@@ -13,12 +13,12 @@ use Rattle.ckrt_mutex.specs.Mutex.{is_owner, mutex_at}
 use Rattle.ckrt_calls.specs.declared.table.Tables.{Tables}
 use Rattle.ckrt_machine.specs.Steps.{State}
 use Rattle.ckrt_look_recording.specs.Accesses.{fetched, may_access}
-use Rattle.ckrt_look_steps.specs.declared.stepping.Stepping.{Stepping}
+use Rattle.ckrt_look_calls.specs.declared.stepping.Stepping.{Stepping}
 use Rattle.ckrt_look_heap.specs.declared.block.Access.{Access}
 use Rattle.ckrt_look_heap.specs.declared.block.Block.{Block}
 use Rattle.ckrt_look_heap.specs.declared.block.Deed.{Deed}
 use Rattle.ckrt_look_heap.specs.declared.block.Deed.TheVariants as deed
-use Rattle.ckrt_look_steps.specs.declared.moment.Moment.{Moment}
+use Rattle.ckrt_look_calls.specs.declared.moment.Moment.{Moment}
 use Rattle.ckrt_look_heap.specs.declared.block.Part.{Part}
 use Rattle.ckrt_look_heap.specs.declared.shadow.Note.{Note}
 use Rattle.ckrt_look_heap.specs.declared.shadow.Note.TheVariants as note

@@ -3,8 +3,8 @@ use Rattle.std.specs.Prelude.{◌≡◌, ℕ, ◌+◌, ◌==◌, true, List, len
 use Rattle.ckrt_events.specs.declared.event.Event.{Event}
 use Rattle.ckrt_machine.specs.Steps.{State}
 use Rattle.ckrt_look_recording.specs.declared.rule.Rule.{Rule}
-use Rattle.ckrt_look_steps.specs.Rooms.{slots_in, words_of}
-use Rattle.ckrt_look_steps.specs.Replays.{Replay}
+use Rattle.ckrt_look_calls.specs.Rooms.{slots_in, words_of}
+use Rattle.ckrt_look_calls.specs.Replays.{Replay}
 use Rattle.ckrt_look_heap.specs.Again.{finding_text, left_text}
 use Rattle.ckrt_look_heap.specs.Shadow.{Heap, behind_all, fresh}
 use Rattle.ckrt_look_heap.specs.Steps.{of_events}

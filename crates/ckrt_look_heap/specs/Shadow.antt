@@ -10,7 +10,7 @@ use Rattle.ckrt_look_heap.specs.declared.block.Change.{Change}
 use Rattle.ckrt_look_heap.specs.declared.block.Change.TheVariants as change
 use Rattle.ckrt_look_heap.specs.declared.block.Deed.{Deed}
 use Rattle.ckrt_look_heap.specs.declared.block.Deed.TheVariants as deed
-use Rattle.ckrt_look_steps.specs.declared.moment.Moment.{Moment}
+use Rattle.ckrt_look_calls.specs.declared.moment.Moment.{Moment}
 use Rattle.ckrt_look_heap.specs.declared.block.Part.{Part}
 use Rattle.ckrt_look_heap.specs.declared.finding.Finding.{Finding}
 use Rattle.ckrt_look_heap.specs.declared.finding.TheConstants.{FINDINGS}

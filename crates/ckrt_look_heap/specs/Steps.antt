@@ -10,7 +10,7 @@ use Rattle.ckrt_machine.specs.Runs.{stop_of, with_byte}
 use Rattle.ckrt_machine.specs.Steps.{State, Stepped, hart_of, hart_step}
 use Rattle.ckrt_look_recording.specs.Quiet.{is_quiet}
 use Rattle.ckrt_look_calls.specs.declared.lines.Place.{Place}
-use Rattle.ckrt_look_steps.specs.Steppings.{stepping_of}
+use Rattle.ckrt_look_calls.specs.Steppings.{stepping_of}
 use Rattle.ckrt_look_heap.specs.declared.shadow.Note.{Note}
 use Rattle.ckrt_look_heap.specs.declared.shadow.Note.TheVariants as note
 use Rattle.ckrt_look_heap.specs.Notes.{notes}

@@ -2,7 +2,7 @@
 use Rattle.std.specs.Prelude.{ℕ, ◌+◌, ◌-◌, ◌==◌, nat_le, min, if◌then◌else◌, List, [], ◌∷◌, ◌++◌, length, take, codes, decimal}
 use Rattle.std.specs.List.{flat_map}
 use Rattle.ckrt_inspect.specs.Texts.{hex_text}
-use Rattle.ckrt_look_steps.specs.Rows.{others_line, stretch_text, times_text}
+use Rattle.ckrt_look_calls.specs.Rows.{others_line, stretch_text, times_text}
 use Rattle.ckrt_look_heap.specs.declared.block.Access.{Access}
 use Rattle.ckrt_look_heap.specs.declared.block.Block.{Block}
 use Rattle.ckrt_look_heap.specs.declared.block.Cell.{Cell}

@@ -4,15 +4,15 @@ ghost use Rattle.std.specs.Io.KnownBytes.{Appends};
 ghost use Rattle.std.specs.List.{flat_map};
 ghost use Rattle.ckrt_inspect.specs.declared.fault.InspectFault.TheVariants.{OutOfMemory, Write as Writing};
 ghost use Rattle.ckrt_look_heap.specs.declared.block.Cell.TheVariants as cell;
-ghost use Rattle.ckrt_look_steps.specs.Moments.{made_text};
-ghost use Rattle.ckrt_look_steps.specs.Replays.{IsBehind, IsSound, replay_of};
+ghost use Rattle.ckrt_look_calls.specs.Moments.{made_text};
+ghost use Rattle.ckrt_look_calls.specs.Replays.{IsBehind, IsSound, replay_of};
 ghost use Rattle.ckrt_look_heap.specs.Again.{AreBehind, address_of, back_line, back_text, block_line, cell_text, finding_text, left_text, taken_text};
 
 use crate::block::{Block, Cell};
 use crate::finding::Finding;
 use crate::texts::write_finding;
 use ckrt_inspect::InspectFault;
-use ckrt_look_steps::{Cursor, Moment, Source, write_by, write_made, write_taken_line};
+use ckrt_look_calls::{Cursor, Moment, Source, write_by, write_made, write_taken_line};
 use std::alloc::{AllocError, Global};
 use std::io::{Result as Written, Write};
 

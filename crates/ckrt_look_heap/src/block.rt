@@ -2,7 +2,7 @@
 ghost use Rattle.std.specs.Prelude.{◌≡◌};
 ghost use Rattle.ckrt_look_heap.specs.Shadow.{begin_of, changed_by, is_begin, is_load, is_within, kind_of, left_by, may_use, needed, number_of};
 
-use ckrt_look_steps::Moment;
+use ckrt_look_calls::Moment;
 
 /// A block that was given: so many words from the first one on. That word is the heap's own, and behind it the block has so many bytes.
 #[derive(Clone, Copy, Debug, Drop)]

@@ -3,7 +3,7 @@ ghost use Rattle.std.specs.Prelude.{◌≡◌, ◌⊎◌, ◌++◌, IfErr, IfOk,
 ghost use Rattle.std.specs.Io.KnownBytes.{Appends};
 ghost use Rattle.std.specs.List.{flat_map};
 ghost use Rattle.ckrt_inspect.specs.declared.fault.InspectFault.TheVariants.{OutOfMemory, Write as Writing};
-ghost use Rattle.ckrt_look_steps.specs.Replays.{IsSound, replay_of};
+ghost use Rattle.ckrt_look_calls.specs.Replays.{IsSound, replay_of};
 ghost use Rattle.ckrt_look_heap.specs.Again.{left_text};
 ghost use Rattle.ckrt_look_heap.specs.Shadow.{left_from, left_in};
 ghost use Rattle.ckrt_look_heap.specs.Texts.{blocks_text, bytes_of, counted_text, left_lines, more_text, sum_text};
@@ -12,8 +12,7 @@ use crate::again::write_blocks;
 use crate::block::{Block, Cell};
 use crate::shadow::Shadow;
 use ckrt_inspect::InspectFault;
-use ckrt_look_calls::write_counted;
-use ckrt_look_steps::Source;
+use ckrt_look_calls::{Source, write_counted};
 use std::alloc::{AllocError, Global};
 use std::io::{Result as Written, Write};
 

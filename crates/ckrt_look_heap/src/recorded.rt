@@ -2,7 +2,7 @@
 ghost use Rattle.std.specs.Prelude.{◌≡◌, ◌⊎◌, ◌<◌, ◌+◌, ◌^◌, IfErr, IfOk, OnOk, length};
 ghost use Rattle.std.specs.Io.KnownBytes.{Appends};
 ghost use Rattle.ckrt_inspect.specs.declared.fault.InspectFault.TheVariants.{OutOfMemory, Write as Writing};
-ghost use Rattle.ckrt_look_steps.specs.Replays.{IsSound, replay_of};
+ghost use Rattle.ckrt_look_calls.specs.Replays.{IsSound, replay_of};
 ghost use Rattle.ckrt_look_heap.specs.Again.{finding_text};
 ghost use Rattle.ckrt_look_heap.specs.Recorded.{fresh_for, text_by};
 ghost use Rattle.ckrt_look_heap.specs.Texts.{found_text};
@@ -13,7 +13,7 @@ use crate::parts::PART_BYTES;
 use crate::shadow::Shadow;
 use crate::texts::{write_none, write_untold};
 use ckrt_inspect::InspectFault;
-use ckrt_look_steps::{Source, slots_in, words_of, write_others_line};
+use ckrt_look_calls::{Source, slots_in, words_of, write_others_line};
 use ckrt_machine::Machine;
 use std::alloc::{AllocError, Global};
 use std::io::Write;

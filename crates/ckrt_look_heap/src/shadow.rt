@@ -8,7 +8,7 @@ use crate::block::{Access, Block, Cell, Change, Part, is_begin, may_use};
 use crate::finding::Finding;
 use crate::found::Findings;
 use crate::parts::Parts;
-use ckrt_look_steps::Moment;
+use ckrt_look_calls::Moment;
 use std::alloc::{AllocError, Global};
 use std::marker::Model;
 

@@ -5,8 +5,7 @@ ghost use Rattle.ckrt_look_heap.specs.Texts.{access_text, elsewhere, error_text,
 
 use crate::block::{Access, Cell, Deed};
 use crate::finding::Finding;
-use ckrt_look_calls::{write_counted, write_hex, write_number};
-use ckrt_look_steps::{write_stretch, write_times};
+use ckrt_look_calls::{write_counted, write_hex, write_number, write_stretch, write_times};
 use std::io::{Result, Write};
 
 /// Where something was done, and by whom.

@@ -10,9 +10,8 @@ use crate::notes::watch_notes;
 use crate::shadow::Shadow;
 use ckrt_calls::Status;
 use ckrt_events::Event;
-use ckrt_look_calls::{Place, advance};
+use ckrt_look_calls::{Place, StepWatcher, advance, stepping_of};
 use ckrt_look_recording::is_quiet;
-use ckrt_look_steps::{StepWatcher, stepping_of};
 use ckrt_machine::Machine;
 
 impl StepWatcher for Shadow {
@@ -47,7 +46,7 @@ pub fn watch_event(machine: &mut Machine, count: u64, event: &Event, shadow: &mu
     ensures watched { shadow.new
         ≡ noted_all (of_event count event.now machine.old.state) shadow.old }
 {
-    ckrt_look_steps::watch_event(machine, count, event, shadow);
+    ckrt_look_calls::watch_event(machine, count, event, shadow);
 }
 
 /// Whether the program has ended.

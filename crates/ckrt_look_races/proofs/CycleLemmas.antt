@@ -24,7 +24,7 @@ use Rattle.ckrt_look_clocks.specs.LockHistories.{Ordered, behind_lock, held_by, 
 use Rattle.ckrt_look_clocks.specs.LockOrders.{are_apart, awaits, free_order, holds, holds_some, is_repeat, order_at}
 use Rattle.ckrt_look_races.specs.CycleLaws as laws
 use Rattle.ckrt_look_races.specs.Holders.{HOLDERS}
-use Rattle.ckrt_look_steps.specs.Rooms.{words_of}
+use Rattle.ckrt_look_calls.specs.Rooms.{words_of}
 use Rattle.ckrt_look_races.specs.Steps.{of_events}
 
 -- CHOICES AND LISTS

@@ -33,7 +33,7 @@ use Rattle.ckrt_look_races.specs.Holders.{HOLDERS}
 use Rattle.ckrt_look_races.specs.Kit.{is_in_kit}
 use Rattle.ckrt_look_races.specs.Orders.{between}
 use Rattle.ckrt_look_races.specs.Steps.{at, before_step, of_event, of_events, of_other, of_run, of_step, unless_ended}
-use Rattle.ckrt_look_steps.specs.Rooms.{words_of}
+use Rattle.ckrt_look_calls.specs.Rooms.{words_of}
 use Rattle.ckrt_look_races.specs.Laws.{FoundIsOfTheHistory, HistoriesAreOrderly, OnlyRacesAreTold, history_of, latest_first}
 use Rattle.ckrt_look_races.proofs.NumberLemmas.{ArePassesAt, between_passes, lock_number, thread_number, waits_pass}
 

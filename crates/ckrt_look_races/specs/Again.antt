@@ -1,8 +1,8 @@
 -- The second look at a race: what is told of its two accesses, and of the memory that has their word.
 use Rattle.std.specs.Prelude.{ℕ, ◌+◌, ◌-◌, ◌*◌, ◌%◌, ◌^◌, List, [], ◌++◌, Option, Some, None}
-use Rattle.ckrt_look_steps.specs.declared.moment.Moment.{Moment}
-use Rattle.ckrt_look_steps.specs.Moments.{made_text, taken_line}
-use Rattle.ckrt_look_steps.specs.Replays.{IsBehind, Replay, state_at}
+use Rattle.ckrt_look_calls.specs.declared.moment.Moment.{Moment}
+use Rattle.ckrt_look_calls.specs.Moments.{made_text, taken_line}
+use Rattle.ckrt_look_calls.specs.Replays.{IsBehind, Replay, state_at}
 use Rattle.ckrt_look_clocks.specs.declared.operation.Access.{Access}
 use Rattle.ckrt_look_clocks.specs.declared.operation.Block.{Block}
 use Rattle.ckrt_look_clocks.specs.declared.pair.Pair.{Pair}

@@ -9,11 +9,11 @@ use Rattle.ckrt_look_clocks.specs.declared.lock.LockName.TheVariants.{Mutex, RwL
 use Rattle.ckrt_look_clocks.specs.declared.lock.Taking.{Taking}
 use Rattle.ckrt_look_clocks.specs.declared.operation.Place.{Place}
 use Rattle.ckrt_look_clocks.specs.LockHistories.{Ordered}
-use Rattle.ckrt_look_steps.specs.declared.moment.Moment.{Moment}
-use Rattle.ckrt_look_steps.specs.Replays.{Replay}
-use Rattle.ckrt_look_steps.specs.Moments.{made_text, moment_text, position_text}
+use Rattle.ckrt_look_calls.specs.declared.moment.Moment.{Moment}
+use Rattle.ckrt_look_calls.specs.Replays.{Replay}
+use Rattle.ckrt_look_calls.specs.Moments.{made_text, moment_text, position_text}
 use Rattle.ckrt_look_races.specs.Moments.{moment_of, place_of}
-use Rattle.ckrt_look_steps.specs.Rows.{times_text}
+use Rattle.ckrt_look_calls.specs.Rows.{times_text}
 
 -- `mutex ADDRESS`, `rwlock ADDRESS to read`, `rwlock ADDRESS to write`
 abbrev pub reading_text : (reads : Bool) → List ℕ

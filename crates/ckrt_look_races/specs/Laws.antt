@@ -10,7 +10,7 @@ use Rattle.ckrt_look_clocks.specs.Histories.{History}
 use Rattle.ckrt_look_clocks.specs.Laws.{IsOrderly, IsRaceOf}
 use Rattle.ckrt_look_races.specs.Holders.{HOLDERS}
 use Rattle.ckrt_look_races.specs.Steps.{of_events}
-use Rattle.ckrt_look_steps.specs.Rooms.{words_of}
+use Rattle.ckrt_look_calls.specs.Rooms.{words_of}
 use Rattle.ckrt_look_races.specs.Recorded.{found_by}
 
 -- operations in order, before a history

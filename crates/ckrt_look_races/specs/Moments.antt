@@ -11,8 +11,8 @@ use Rattle.ckrt_machine.specs.Steps.{State}
 use Rattle.ckrt_look_recording.specs.declared.rule.Rule.{Rule}
 use Rattle.ckrt_look_calls.specs.Events.{at}
 use Rattle.ckrt_look_calls.specs.declared.lines.Place.{Place}
-use Rattle.ckrt_look_steps.specs.declared.moment.Moment.{Moment}
-use Rattle.ckrt_look_steps.specs.Moments.{callers_text, moment_line, moment_text}
+use Rattle.ckrt_look_calls.specs.declared.moment.Moment.{Moment}
+use Rattle.ckrt_look_calls.specs.Moments.{callers_text, moment_line, moment_text}
 use Rattle.ckrt_look_clocks.specs.declared.operation.Place.{Place as Clocked}
 use Rattle.ckrt_look_races.specs.Kit.{is_of_kit}
 

@@ -4,11 +4,11 @@ use Rattle.ckrt_events.specs.declared.event.Event.{Event}
 use Rattle.ckrt_machine.specs.Steps.{State}
 use Rattle.ckrt_look_recording.specs.declared.rule.Rule.{Rule}
 use Rattle.ckrt_look_calls.specs.Stretches.{Account}
-use Rattle.ckrt_look_steps.specs.Rooms.{slots_in, words_of}
+use Rattle.ckrt_look_calls.specs.Rooms.{slots_in, words_of}
 use Rattle.ckrt_look_clocks.specs.Detection.{Found, behind_all, fresh}
 use Rattle.ckrt_look_clocks.specs.LockHistories.{Ordered}
 use Rattle.ckrt_look_clocks.specs.Within.{Detected, fresh_within, is_full, noted_all}
-use Rattle.ckrt_look_steps.specs.Replays.{Replay}
+use Rattle.ckrt_look_calls.specs.Replays.{Replay}
 use Rattle.ckrt_look_races.specs.Again.{race_text}
 use Rattle.ckrt_look_races.specs.Holders.{HOLDERS}
 use Rattle.ckrt_look_races.specs.Inversions.{inversion_text, orders_text}

@@ -2,7 +2,7 @@
 use Rattle.std.specs.Prelude.{ℕ, ◌==◌, Bool, true, false, if◌then◌else◌, List, [], ◌∷◌, ◌++◌, codes, decimal}
 use Rattle.std.specs.List.{flat_map}
 use Rattle.ckrt_inspect.specs.Texts.{hex_text}
-use Rattle.ckrt_look_steps.specs.Rows.{others_line, stretch_text, times_text}
+use Rattle.ckrt_look_calls.specs.Rows.{others_line, stretch_text, times_text}
 use Rattle.ckrt_look_clocks.specs.declared.operation.Access.{Access}
 use Rattle.ckrt_look_clocks.specs.declared.pair.Pair.{Pair}
 use Rattle.ckrt_look_clocks.specs.Detection.{Found}

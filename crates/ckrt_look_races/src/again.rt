@@ -3,15 +3,15 @@ ghost use Rattle.std.specs.Prelude.{◌≡◌, ◌⊎◌, IfErr, IfOk, OnOk, Som
 ghost use Rattle.std.specs.Io.KnownBytes.{Appends};
 ghost use Rattle.std.specs.List.{flat_map};
 ghost use Rattle.ckrt_inspect.specs.declared.fault.InspectFault.TheVariants.{OutOfMemory, Write as Writing};
-ghost use Rattle.ckrt_look_steps.specs.Replays.{IsBehind, IsSound, replay_of};
+ghost use Rattle.ckrt_look_calls.specs.Replays.{IsBehind, IsSound, replay_of};
 ghost use Rattle.ckrt_look_races.specs.Again.{AreBehind, access_text, accesses_text, begin_of, block_line, memory_text, race_text, size_of, taken_at};
 
 use crate::held::write_access_lines;
 use crate::moment::moment_of;
 use crate::texts::write_pair;
 use ckrt_inspect::InspectFault;
+use ckrt_look_calls::{Cursor, Moment, Source, write_made, write_taken_line};
 use ckrt_look_clocks::{Access, Block, Pair};
-use ckrt_look_steps::{Cursor, Moment, Source, write_made, write_taken_line};
 use std::alloc::{AllocError, Global};
 use std::io::{Result as Written, Write};
 

@@ -3,15 +3,15 @@ ghost use Rattle.std.specs.Prelude.{◌≡◌, ◌⊎◌, ◌+◌, ◌<◌, ◌^
 ghost use Rattle.std.specs.Io.KnownBytes.{Appends};
 ghost use Rattle.std.specs.List.{flat_map};
 ghost use Rattle.ckrt_inspect.specs.declared.fault.InspectFault.TheVariants.{OutOfMemory, Write as Writing};
-ghost use Rattle.ckrt_look_steps.specs.Replays.{IsBehind, IsSound, replay_of};
+ghost use Rattle.ckrt_look_calls.specs.Replays.{IsBehind, IsSound, replay_of};
 ghost use Rattle.ckrt_look_races.specs.Inversions.{callers_at, inversion_text, link_lines, orders_text, rows_text};
 
 use crate::inversions::{
     moment_at, write_full, write_inversion_line, write_more_line, write_no_cycle, write_took_line,
 };
 use ckrt_inspect::InspectFault;
+use ckrt_look_calls::{Cursor, Source, write_made};
 use ckrt_look_clocks::{Detector, Inversion, Link};
-use ckrt_look_steps::{Cursor, Source, write_made};
 use std::alloc::Global;
 use std::io::Write;
 

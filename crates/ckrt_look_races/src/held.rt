@@ -6,8 +6,8 @@ ghost use Rattle.ckrt_look_races.specs.Moments.{access_lines, held_lines, holds_
 
 use crate::kit::is_of_kit;
 use ckrt_calls::Tables;
+use ckrt_look_calls::{Moment, write_callers, write_moment, write_moment_line};
 use ckrt_look_recording::Rule;
-use ckrt_look_steps::{Moment, write_callers, write_moment, write_moment_line};
 use ckrt_machine::Machine;
 use ckrt_mutex::Mutex;
 use ckrt_objects::Entry;

@@ -5,12 +5,13 @@ ghost use Rattle.std.specs.Io.KnownBytes.{Appends};
 ghost use Rattle.ckrt_inspect.specs.Texts.{hex_text};
 ghost use Rattle.ckrt_look_races.specs.Inversions.{another, at_text, call_text, count_text, cycle_text, doing_text, full_text, inversion_line, link_piece, link_text, lock_text, moment_at, more_line, more_text, no_cycle_text, reading_text, span_text, taking_text, took_line, took_text, who_text};
 ghost use Rattle.ckrt_look_races.specs.Moments.{place_of};
-ghost use Rattle.ckrt_look_steps.specs.Moments.{position_text};
+ghost use Rattle.ckrt_look_calls.specs.Moments.{position_text};
 
 use crate::moment::{moment_of, place_of};
-use ckrt_look_calls::{write_counted, write_number};
+use ckrt_look_calls::{
+    Moment, write_address, write_counted, write_moment, write_number, write_position, write_times,
+};
 use ckrt_look_clocks::{Inversion, Link, LockName, Place, Taking};
-use ckrt_look_steps::{Moment, write_address, write_moment, write_position, write_times};
 use std::io::{Result, Write};
 
 /// Whether a read-write lock is taken to read, or to write.

@@ -2,8 +2,7 @@
 ghost use Rattle.std.specs.Prelude.{◌≡◌};
 ghost use Rattle.ckrt_look_races.specs.Moments.{moment_of, place_of};
 
-use ckrt_look_calls::Place;
-use ckrt_look_steps::Moment;
+use ckrt_look_calls::{Moment, Place};
 
 /// A place of a detector.
 pub(crate) fn place_of(place: ckrt_look_clocks::Place) -> Place

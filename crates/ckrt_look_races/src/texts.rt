@@ -1,12 +1,11 @@
 //! What was found, as text.
 ghost use Rattle.std.specs.Prelude.{◌≡◌, OnOk};
 ghost use Rattle.std.specs.Io.KnownBytes.{Appends};
-ghost use Rattle.ckrt_look_steps.specs.Rows.{others_line, others_text, stretch_text, times_text};
+ghost use Rattle.ckrt_look_calls.specs.Rows.{others_line, others_text, stretch_text, times_text};
 ghost use Rattle.ckrt_look_races.specs.Texts.{access_text, both_text, elsewhere, none_text, pair_line, place_text, verb, what_text};
 
-use ckrt_look_calls::{write_counted, write_hex, write_number};
+use ckrt_look_calls::{write_counted, write_hex, write_number, write_stretch, write_times};
 use ckrt_look_clocks::{Access, Pair};
-use ckrt_look_steps::{write_stretch, write_times};
 use std::io::{Result, Write};
 
 /// Where an access was made, and by whom.

@@ -5,8 +5,8 @@ use Rattle.ckrt_machine.specs.Steps.{State}
 use Rattle.ckrt_inspect.specs.declared.fault.InspectFault.{InspectFault}
 use Rattle.ckrt_inspect.specs.declared.fault.InspectFault.TheVariants.{NotFormatted, Version, Damaged, Device, OutOfMemory, ShadowFull, Write, Range}
 use Rattle.ckrt_look_calls.specs.Stretches.{IsEventsFault}
-use Rattle.ckrt_look_steps.specs.Walks.{after_events}
-use Rattle.ckrt_look_steps.proofs.PartLemmas.{events_alone}
+use Rattle.ckrt_look_calls.specs.Walks.{after_events}
+use Rattle.ckrt_look_calls.proofs.PartLemmas.{events_alone}
 use Rattle.ckrt_look_heap.specs.Steps as heap
 use Rattle.ckrt_look_heap.specs.Within.{Noted}
 use Rattle.ckrt_look_values.specs.Checks.{after_step}

@@ -1,7 +1,7 @@
 -- The second look at a use: what is told of who made it, and of who was given the memory.
 use Rattle.std.specs.Prelude.{List, ℕ, ◌++◌}
-use Rattle.ckrt_look_steps.specs.Replays.{IsBehind, Replay}
-use Rattle.ckrt_look_steps.specs.Moments.{made_text}
+use Rattle.ckrt_look_calls.specs.Replays.{IsBehind, Replay}
+use Rattle.ckrt_look_calls.specs.Moments.{made_text}
 use Rattle.ckrt_look_heap.specs.Again.{back_text}
 use Rattle.ckrt_look_values.specs.Texts.{finding_line, from_text}
 use Rattle.ckrt_look_values.specs.Values.{moment_of}

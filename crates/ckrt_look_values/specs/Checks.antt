@@ -2,7 +2,7 @@
 use Rattle.std.specs.Prelude.{ℕ, Bool}
 use Rattle.ckrt_machine.specs.Steps.{State}
 use Rattle.ckrt_look_calls.specs.declared.lines.Place.{Place}
-use Rattle.ckrt_look_steps.specs.Rooms.{words_of}
+use Rattle.ckrt_look_calls.specs.Rooms.{words_of}
 use Rattle.ckrt_look_heap.specs.Recorded.{fresh_for}
 use Rattle.ckrt_look_heap.specs.Steps as heap
 use Rattle.ckrt_look_heap.specs.Within.{is_full}

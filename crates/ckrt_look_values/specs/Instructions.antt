@@ -21,8 +21,8 @@ use Rattle.ckrt_look_calls.specs.Calls.{arguments_of}
 use Rattle.ckrt_look_calls.specs.declared.lines.Place.{Place}
 use Rattle.ckrt_look_calls.specs.declared.names.Arguments.{Arguments}
 use Rattle.ckrt_look_calls.specs.declared.names.Arguments.TheVariants as arguments
-use Rattle.ckrt_look_steps.specs.Steppings.{stepping_of}
-use Rattle.ckrt_look_steps.specs.declared.stepping.Stepping.{Stepping}
+use Rattle.ckrt_look_calls.specs.Steppings.{stepping_of}
+use Rattle.ckrt_look_calls.specs.declared.stepping.Stepping.{Stepping}
 use Rattle.ckrt_look_heap.specs.Notes.{is_in_heap, part_at}
 use Rattle.ckrt_look_heap.specs.declared.block.Part.{Part}
 use Rattle.ckrt_look_values.specs.Bits.{ALL, alu_unknown, is_open, loaded_unknown, ones, op_of, shift_of, some, stored_unknown}

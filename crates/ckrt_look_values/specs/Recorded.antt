@@ -5,11 +5,11 @@ use Rattle.ckrt_events.specs.declared.event.Event.{Event}
 use Rattle.ckrt_machine.specs.Steps.{State}
 use Rattle.ckrt_look_recording.specs.declared.rule.Rule.{Rule}
 use Rattle.ckrt_look_calls.specs.Stretches.{Account}
-use Rattle.ckrt_look_steps.specs.Walks.{after_events}
-use Rattle.ckrt_look_steps.specs.Replays.{Replay}
-use Rattle.ckrt_look_steps.specs.Rooms.{words_of}
+use Rattle.ckrt_look_calls.specs.Walks.{after_events}
+use Rattle.ckrt_look_calls.specs.Replays.{Replay}
+use Rattle.ckrt_look_calls.specs.Rooms.{words_of}
 use Rattle.ckrt_look_heap.specs.Recorded.{FillsRoom, errors_text, replay, text_by}
-use Rattle.ckrt_look_steps.specs.Rows.{others_line}
+use Rattle.ckrt_look_calls.specs.Rows.{others_line}
 use Rattle.ckrt_look_values.specs.Again.{finding_text}
 use Rattle.ckrt_look_values.specs.Instructions.{after_step}
 use Rattle.ckrt_look_values.specs.Values.{Shadow, fresh}

@@ -1,7 +1,7 @@
 -- What was found, as text (this project's own format): a line for each place, which begins as a line of a call does.
 use Rattle.std.specs.Prelude.{ℕ, Bool, true, false, List, ◌++◌, codes, decimal}
 use Rattle.ckrt_inspect.specs.Texts.{hex_text}
-use Rattle.ckrt_look_steps.specs.Rows.{times_text}
+use Rattle.ckrt_look_calls.specs.Rows.{times_text}
 use Rattle.ckrt_look_values.specs.declared.finding.Finding.{Finding}
 use Rattle.ckrt_look_values.specs.declared.value.Deed.{Deed}
 use Rattle.ckrt_look_values.specs.declared.value.Deed.TheVariants as deed

@@ -3,15 +3,15 @@ ghost use Rattle.std.specs.Prelude.{◌≡◌, ◌⊎◌, ◌++◌, IfErr, IfOk,
 ghost use Rattle.std.specs.Io.KnownBytes.{Appends};
 ghost use Rattle.std.specs.List.{flat_map};
 ghost use Rattle.ckrt_inspect.specs.declared.fault.InspectFault.TheVariants.{OutOfMemory, Write as Writing};
-ghost use Rattle.ckrt_look_steps.specs.Replays.{IsBehind, IsSound, replay_of};
+ghost use Rattle.ckrt_look_calls.specs.Replays.{IsBehind, IsSound, replay_of};
 ghost use Rattle.ckrt_look_values.specs.Again.{AreBehind, beneath_text, finding_text, given_text};
 
 use crate::finding::Finding;
 use crate::texts::{from_text, write_finding};
 use crate::value::{Value, moment_of};
 use ckrt_inspect::InspectFault;
+use ckrt_look_calls::{Cursor, Source, write_made};
 use ckrt_look_heap::write_back;
-use ckrt_look_steps::{Cursor, Source, write_made};
 use std::alloc::{AllocError, Global};
 use std::io::Write;
 

@@ -7,9 +7,8 @@ use crate::instruction::tell;
 use crate::value::{Deed, Value, chosen, known};
 use crate::values::Values;
 use ckrt_calls::Call;
-use ckrt_look_calls::{Arguments, arguments_of};
+use ckrt_look_calls::{Arguments, Stepping, arguments_of};
 use ckrt_look_recording::fetched;
-use ckrt_look_steps::Stepping;
 use ckrt_machine::Machine;
 use ckrt_rv32i::Instr;
 

@@ -3,10 +3,9 @@ ghost use Rattle.std.specs.Prelude.{◌≡◌};
 
 use crate::values::Values;
 use crate::walk::{watch_plainly, watch_specially};
-use ckrt_look_calls::{Place, advance};
+use ckrt_look_calls::{Place, StepWatcher, advance, stepping_of};
 use ckrt_look_heap::{Shadow, watch_notes};
 use ckrt_look_recording::is_quiet;
-use ckrt_look_steps::{StepWatcher, stepping_of};
 use ckrt_machine::Machine;
 
 /// The shadow of the heap, and what is known of values.

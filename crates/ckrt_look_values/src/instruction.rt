@@ -11,9 +11,9 @@ use crate::bits::{
 };
 use crate::value::{Deed, Use, Value, chosen, known, with_unknown};
 use crate::values::{Giving, Values};
+use ckrt_look_calls::{Moment, Stepping};
 use ckrt_look_heap::{Part, is_in_heap};
 use ckrt_look_recording::{fetched, may_access};
-use ckrt_look_steps::{Moment, Stepping};
 use ckrt_machine::Machine;
 use ckrt_rv32i::{AluOp, Condition, Instr, LoadKind, Size};
 

@@ -5,8 +5,7 @@ ghost use Rattle.ckrt_look_values.specs.Texts.{done_text, finding_line, from_tex
 
 use crate::finding::Finding;
 use crate::value::{Deed, Use};
-use ckrt_look_calls::{write_counted, write_hex, write_number};
-use ckrt_look_steps::write_times;
+use ckrt_look_calls::{write_counted, write_hex, write_number, write_times};
 use std::io::{Result, Write};
 
 /// Where something was done, and by whom.

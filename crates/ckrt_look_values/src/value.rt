@@ -2,8 +2,7 @@
 ghost use Rattle.std.specs.Prelude.{◌≡◌};
 ghost use Rattle.ckrt_look_values.specs.Values.{chosen, known, moment_of, number_of, with_unknown};
 
-use ckrt_look_calls::Place;
-use ckrt_look_steps::Moment;
+use ckrt_look_calls::{Moment, Place};
 
 /// Which bits of a word or a register hang on memory that was given and never stored, and who was given that, where: a block of the heap, or
 /// a frame of a stack.

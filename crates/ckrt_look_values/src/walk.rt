@@ -10,8 +10,7 @@ ghost use Rattle.ckrt_look_values.specs.Instructions.{plainly, specially};
 use crate::calls::{watch_call, watch_end};
 use crate::instruction::watch_quiet;
 use crate::values::Values;
-use ckrt_look_calls::advance;
-use ckrt_look_steps::Stepping;
+use ckrt_look_calls::{Stepping, advance};
 use ckrt_machine::Machine;
 
 /// A step that is an instruction, and no call, before it is made.

@@ -2,9 +2,9 @@
 use Rattle.std.proofs.Common.{ℕ, ◌≤◌, List, sym, subst}
 use Rattle.ckrt_disk.specs.Disk.{IsImage}
 use Rattle.ckrt_disk.specs.declared.disk.Disk.{Ghosts}
-use Rattle.ckrt_drive_theorem.specs.Drives.{StopLeaves}
-use Rattle.ckrt_drive_theorem.specs.Together.{IsLeftSince}
-use Rattle.ckrt_drive_theorem.proofs.LeftLemmas.{left_image}
+use Rattle.ckrt_drive.specs.Drives.{StopLeaves}
+use Rattle.ckrt_drive.specs.Together.{IsLeftSince}
+use Rattle.ckrt_drive.proofs.LeftLemmas.{left_image}
 use Rattle.ckrt_witness.specs.Before.{BeforeWitness, StoppedBefore, StopsAgain}
 use Rattle.ckrt_witness.specs.Drives.{IsReopened}
 use Rattle.ckrt_witness.proofs.WitnessLemmas.{again, stop_at_end}

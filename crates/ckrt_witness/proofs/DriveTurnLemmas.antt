@@ -24,11 +24,11 @@ use Rattle.ckrt_recovery.specs.Recovered.{IsRecovered}
 use Rattle.ckrt_drive.specs.Plan.{schedule_of}
 use Rattle.ckrt_drive.specs.Stages.{Stage, stage}
 use Rattle.ckrt_drive.specs.declared.options.Options.{Options}
-use Rattle.ckrt_drive_theorem.proofs.LeftLemmas.{starts_formatted}
-use Rattle.ckrt_drive_theorem.specs.ByPlan.{AreByPlan, Course, IsByPlanFrom, course}
-use Rattle.ckrt_drive_theorem.specs.Drives.{ComeBehind, IsTold, Keeps, OneDrive, StopLeaves, course_of}
-use Rattle.ckrt_drive_theorem.specs.Theorem.{Begin, ManyDrives}
-use Rattle.ckrt_drive_theorem.specs.Together.{IsLeftSince, StandsFed, past}
+use Rattle.ckrt_drive.proofs.LeftLemmas.{starts_formatted}
+use Rattle.ckrt_drive.specs.ByPlan.{AreByPlan, Course, IsByPlanFrom, course}
+use Rattle.ckrt_drive.specs.Drives.{ComeBehind, IsTold, Keeps, OneDrive, StopLeaves, course_of}
+use Rattle.ckrt_drive.specs.Theorem.{Begin, ManyDrives}
+use Rattle.ckrt_drive.specs.Together.{IsLeftSince, StandsFed, past}
 use Rattle.ckrt_recovery.specs.Represents.{Represents}
 use Rattle.ckrt_recovery.specs.declared.session.Session.{Session}
 use Rattle.ckrt_stored.specs.Programs.{Program, RecoversToStart, state_after}

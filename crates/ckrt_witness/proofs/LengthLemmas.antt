@@ -4,7 +4,7 @@ use Rattle.ckrt_disk.specs.declared.disk.Disk.{Ghosts}
 use Rattle.ckrt_drive.specs.Runs.{Runs}
 use Rattle.ckrt_drive.specs.Stages.{GoesBySteps, IsOver, stage}
 use Rattle.ckrt_drive.specs.declared.options.Options.{Options}
-use Rattle.ckrt_drive_theorem.proofs.LeftLemmas.{starts_formatted}
+use Rattle.ckrt_drive.proofs.LeftLemmas.{starts_formatted}
 use Rattle.ckrt_recovery.specs.Represents.{RepresentsDisk}
 use Rattle.ckrt_recovery.specs.declared.session.Session.{Session}
 use Rattle.ckrt_schedule.specs.declared.next.ScheduleEnd.{ScheduleEnd}

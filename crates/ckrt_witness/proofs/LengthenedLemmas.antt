@@ -2,11 +2,11 @@
 use Rattle.std.proofs.Common.{◌≡◌, ℕ, List, [], Some, refl, sym, subst}
 use Rattle.ckrt_disk.specs.Frame.{MayBeLeft}
 use Rattle.ckrt_disk.specs.declared.disk.Disk.{Ghosts}
-use Rattle.ckrt_drive_theorem.specs.Lengthening.{IsReadied}
-use Rattle.ckrt_drive_theorem.specs.Together.{past}
-use Rattle.ckrt_drive_theorem.proofs.FedLemmas.{formatted_fed}
-use Rattle.ckrt_drive_theorem.proofs.LeftLemmas.{stands_formatted}
-use Rattle.ckrt_drive_theorem.proofs.LengtheningLemmas.{zeros_only}
+use Rattle.ckrt_drive.specs.Lengthening.{IsReadied}
+use Rattle.ckrt_drive.specs.Together.{past}
+use Rattle.ckrt_drive.proofs.TakenLemmas.{formatted_fed}
+use Rattle.ckrt_drive.proofs.LeftLemmas.{stands_formatted}
+use Rattle.ckrt_drive.proofs.LengtheningLemmas.{zeros_only}
 use Rattle.ckrt_stored.specs.Programs.{Program, RecoversToStart}
 use Rattle.ckrt_witness.specs.Lengthened.{Lengthens, LongerWitness}
 use Rattle.ckrt_witness.proofs.WitnessLemmas.{only_image}

@@ -4,7 +4,7 @@ use Rattle.std.specs.Prelude.{◌≤◌, ◌≢◌, ◌⊎◌, IfSome, is_err}
 use Rattle.ckrt_recovery.specs.Accepts.{Accepts}
 use Rattle.ckrt_disk.specs.Disk.{IsImage}
 use Rattle.ckrt_disk.specs.declared.disk.Disk.{Ghosts}
-use Rattle.ckrt_drive_theorem.proofs.LeftLemmas.{starts_formatted}
+use Rattle.ckrt_drive.proofs.LeftLemmas.{starts_formatted}
 use Rattle.ckrt_events.specs.declared.event.Event.{Event}
 use Rattle.ckrt_cli_disk.specs.Printing.{HoldsEvents}
 use Rattle.ckrt_cli_disk.specs.Running.{IsOfStream, IsUnrecovered, Serves}

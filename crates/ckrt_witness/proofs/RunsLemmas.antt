@@ -22,7 +22,7 @@ use Rattle.ckrt_cli_files.specs.Sources.{Gives}
 use Rattle.ckrt_stored.specs.Programs.{Program, RecoversToStart}
 use Rattle.ckrt_stored.specs.declared.fault.RecoverFault.{RecoverFault}
 use Rattle.ckrt_cli_words.specs.Jobs.{Driving}
-use Rattle.ckrt_drive_theorem.specs.Together.{IsLeftSince}
+use Rattle.ckrt_drive.specs.Together.{IsLeftSince}
 use Rattle.ckrt_cli.specs.Coming.{Came}
 use Rattle.ckrt_cli.specs.Commands.{Leaves, Paths, Run, drive_in, of_words}
 use Rattle.ckrt_cli.proofs.JoinedLemmas.{joins}

@@ -3,7 +3,7 @@ use Rattle.std.proofs.Common.{◌≡◌, ◌≢◌, ◌⊎◌, ⊎_elim, ◌∙�
 use Rattle.std.proofs.lemmas.Bool.{false≢true}
 use Rattle.ckrt_disk.specs.Disk.{HasFailed}
 use Rattle.ckrt_disk.specs.declared.disk.Disk.{Ghosts}
-use Rattle.ckrt_drive_theorem.proofs.LeftLemmas.{starts_formatted}
+use Rattle.ckrt_drive.proofs.LeftLemmas.{starts_formatted}
 use Rattle.ckrt_main.specs.Service.{Processes}
 use Rattle.ckrt_main.specs.declared.fault.ServeFault.{ServeFault}
 use Rattle.ckrt_main.specs.declared.fault.ServeFault.TheVariants.{Read, Write}

@@ -9,9 +9,9 @@ use Rattle.ckrt_disk.specs.declared.disk.Disk.{Ghosts}
 use Rattle.ckrt_drive.specs.Stages.{GoesThrough, Stage}
 use Rattle.ckrt_drive.specs.declared.options.Options.{Options}
 use Rattle.ckrt_stored.specs.Programs.{Program, RecoversToStart}
-use Rattle.ckrt_drive_theorem.specs.Drives.{StopLeaves}
-use Rattle.ckrt_drive_theorem.specs.Together.{IsLeftSince}
-use Rattle.ckrt_drive_theorem.proofs.LeftLemmas.{left_image}
+use Rattle.ckrt_drive.specs.Drives.{StopLeaves}
+use Rattle.ckrt_drive.specs.Together.{IsLeftSince}
+use Rattle.ckrt_drive.proofs.LeftLemmas.{left_image}
 use Rattle.ckrt_witness.specs.Drives.{DroveTwice, IsReopened, Witness}
 
 -- a device of which nothing is pending has one image

@@ -4,8 +4,8 @@ use Rattle.ckrt_disk.specs.Frame.{IsOnlyRead}
 use Rattle.ckrt_disk.specs.declared.disk.Disk.{Ghosts}
 use Rattle.ckrt_drive.specs.Stages.{Stage}
 use Rattle.ckrt_recovery.specs.Opening.{IsSyncedAndRead}
-use Rattle.ckrt_drive_theorem.specs.Drives.{StopLeaves}
-use Rattle.ckrt_drive_theorem.specs.Together.{IsLeftSince}
+use Rattle.ckrt_drive.specs.Drives.{StopLeaves}
+use Rattle.ckrt_drive.specs.Together.{IsLeftSince}
 use Rattle.ckrt_witness.specs.Drives.{Drove, IsReopened}
 
 -- A stop in a drive left one disk and one output, and a stop since left another of each; meanwhile the disk came to be `end`.

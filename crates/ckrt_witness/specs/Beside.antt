@@ -2,7 +2,7 @@
 use Rattle.std.specs.Prelude.{◌≡◌, ℕ, List, [], ◌∷◌}
 use Rattle.ckrt_disk.specs.Frame.{MayBeLeft}
 use Rattle.ckrt_disk.specs.declared.disk.Disk.{Ghosts}
-use Rattle.ckrt_drive_theorem.specs.Together.{IsLeftSince}
+use Rattle.ckrt_drive.specs.Together.{IsLeftSince}
 use Rattle.ckrt_look_recording.specs.Recording.{Recorded}
 use Rattle.ckrt_stored.specs.Programs.{Program, RecoversToStart}
 use Rattle.ckrt_history.specs.History.{HasHistory}

@@ -5,10 +5,10 @@ use Rattle.ckrt_thread.specs.State.{is_ready}
 use Rattle.ckrt_disk.specs.Lists.{IsBeginningOf}
 use Rattle.ckrt_schedule.specs.Turns.{given_among, turns_within}
 use Rattle.ckrt_stored.specs.Programs.{Program, RecoversToStart, state_after}
-use Rattle.ckrt_drive_theorem.specs.ByPlan.{Course, IsByPlanFrom}
-use Rattle.ckrt_drive_theorem.specs.Drives.{AllKeep, AllOnCourse, AllToldByRecord, ComeBehind, IsDrive, OneDrive, course_of}
-use Rattle.ckrt_drive_theorem.specs.Together.{Past, StandsFed}
-use Rattle.ckrt_drive_theorem.specs.Turns.{HasWindow, Window}
+use Rattle.ckrt_drive.specs.ByPlan.{Course, IsByPlanFrom}
+use Rattle.ckrt_drive.specs.Drives.{AllKeep, AllOnCourse, AllToldByRecord, ComeBehind, IsDrive, OneDrive, course_of}
+use Rattle.ckrt_drive.specs.Together.{Past, StandsFed}
+use Rattle.ckrt_drive.specs.Turns.{HasWindow, Window}
 use Rattle.ckrt_witness.specs.Drives.{IsReopened}
 
 -- There was a drive of this disk onto this output, without an input, by this course; a stop comes behind its last step.

@@ -6,8 +6,8 @@ use Rattle.ckrt_drive.specs.declared.options.Options.{Options}
 use Rattle.ckrt_drive.specs.Offset.{offset_from}
 use Rattle.ckrt_recovery.specs.declared.session.Session.{Session}
 use Rattle.ckrt_stored.specs.Programs.{Program, RecoversToStart}
-use Rattle.ckrt_drive_theorem.specs.Drives.{AllHaveInput, AllToldByRecord, ComeBehind, IsDrive, IsToldByRecord, OneDrive}
-use Rattle.ckrt_drive_theorem.specs.Theorem.{Begin}
+use Rattle.ckrt_drive.specs.Drives.{AllHaveInput, AllToldByRecord, ComeBehind, IsDrive, IsToldByRecord, OneDrive}
+use Rattle.ckrt_drive.specs.Theorem.{Begin}
 
 -- from x on a drive went by steps, with this input, up to this session and this output
 pub record Went {D O : Type 0} {d : Ghosts D} {o : Ghosts O} (options : Options) (IsRead : Type 0)

@@ -1,8 +1,8 @@
 -- What meets the premises of the laws of a disk that is made longer.
 use Rattle.std.specs.Prelude.{◌≡◌, ◌<◌, ℕ, List, [], Some, length}
 use Rattle.ckrt_disk.specs.declared.disk.Disk.{Ghosts}
-use Rattle.ckrt_drive_theorem.specs.Lengthening.{IsLengthened, IsLonger}
-use Rattle.ckrt_drive_theorem.specs.Together.{Past, StandTogether, StandsFed}
+use Rattle.ckrt_drive.specs.Lengthening.{IsLengthened, IsLonger}
+use Rattle.ckrt_drive.specs.Together.{Past, StandTogether, StandsFed}
 use Rattle.ckrt_stored.specs.Programs.{Program, RecoversToStart}
 
 -- a disk with these bytes, of which nothing is pending, that was formatted with the program, and one that has zeros after them

@@ -1,7 +1,7 @@
 //! A closed witness of the promise of turns in drives. What stops a test meets any clause, so it shows its witness by coming to its end.
 ghost use Rattle.std.specs.Prelude.{None};
 ghost use Rattle.ckrt_drive.specs.Plan.{schedule_of};
-ghost use Rattle.ckrt_drive_theorem.specs.ByPlan.{course};
+ghost use Rattle.ckrt_drive.specs.ByPlan.{course};
 ghost use Rattle.ckrt_witness.specs.DriveTurns.{DriveTurnsWitness, DroveAlone, MakesTurns};
 
 use crate::closed::{ENDLESS, copied, formatted, memory_disk, stopping_disk};

@@ -3,7 +3,7 @@ ghost use Rattle.std.specs.Prelude.{◌≡◌, ◌≤◌, None, IfSome, true};
 ghost use Rattle.ckrt_drive.specs.Plan.{schedule_of};
 ghost use Rattle.ckrt_drive.specs.Stages.{stage};
 ghost use Rattle.ckrt_drive.specs.declared.options.Options.{Options};
-ghost use Rattle.ckrt_drive_theorem.specs.ByPlan.{course};
+ghost use Rattle.ckrt_drive.specs.ByPlan.{course};
 ghost use Rattle.ckrt_stored.specs.Programs.{Program};
 ghost use Rattle.ckrt_thread.specs.State.{is_ready};
 ghost use Rattle.ckrt_schedule.specs.Turns.{turns_within};
@@ -11,8 +11,7 @@ ghost use Rattle.ckrt_witness.specs.DriveTurns.{DriveTurnsWitness, DroveAlone, D
 ghost use Rattle.ckrt_witness.specs.Drives.{Went};
 
 use ckrt_disk::Disk;
-use ckrt_drive::{Drive, Nobody, Options};
-use ckrt_drive_theorem::power_may_go;
+use ckrt_drive::{Drive, Nobody, Options, power_may_go};
 use ckrt_recovery::{Session, recover};
 use std::alloc::Global;
 

@@ -1,7 +1,7 @@
 use Rattle.std.proofs.Common.{ℕ, subst}
 use Rattle.std.proofs.lemmas.Result.{on_ok_weaker}
 use Rattle.std.specs.Io.KnownBytes.{Appends}
-use Rattle.ckrt_look_steps.specs.Moments.{taken_line}
+use Rattle.ckrt_look_calls.specs.Moments.{taken_line}
 use Rattle.ckrt_look_heap.specs.Again.{address_of}
 use Rattle.ckrt_look_heap.proofs.again.write_block_line.Goals as goal
 

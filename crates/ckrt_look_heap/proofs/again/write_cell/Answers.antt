@@ -2,7 +2,7 @@ use Rattle.std.proofs.Common.{sym, subst}
 use Rattle.std.specs.Result.{OnOk}
 use Rattle.std.specs.Io.KnownBytes.{Appends}
 use Rattle.ckrt_look_heap.specs.declared.block.Cell.{Cell}
-use Rattle.ckrt_look_steps.specs.Replays.{replay_of}
+use Rattle.ckrt_look_calls.specs.Replays.{replay_of}
 use Rattle.ckrt_look_heap.specs.Again.{cell_text}
 use Rattle.ckrt_look_heap.proofs.again.write_cell.Goals as goal
 

@@ -2,7 +2,7 @@ use Rattle.std.proofs.Common.{◌++◌, length, take}
 use Rattle.std.proofs.lemmas.Result.{on_ok_weaker}
 use Rattle.std.specs.List.{flat_map}
 use Rattle.ckrt_look_calls.proofs.AppendLemmas.{appends_both}
-use Rattle.ckrt_look_steps.specs.Replays.{replay_of}
+use Rattle.ckrt_look_calls.specs.Replays.{replay_of}
 use Rattle.ckrt_look_heap.specs.Again.{left_text}
 use Rattle.ckrt_look_heap.specs.Texts.{more_text, sum_text}
 use Rattle.ckrt_look_heap.proofs.left.write_counted_blocks.Goals as goal

@@ -1,7 +1,7 @@
 use Rattle.std.proofs.Common.{◌≡◌, Bool, true, if◌then◌else◌, [], ap, subst, sym, rules}
 use Rattle.std.proofs.lemmas.Result.{on_ok_weaker}
 use Rattle.std.specs.Io.KnownBytes.{Appends}
-use Rattle.ckrt_look_steps.specs.Replays.{replay_of}
+use Rattle.ckrt_look_calls.specs.Replays.{replay_of}
 use Rattle.ckrt_look_heap.specs.Again.{left_text}
 use Rattle.ckrt_look_heap.specs.Shadow.{left_from}
 use Rattle.ckrt_look_heap.specs.Texts.{blocks_text, left_lines}

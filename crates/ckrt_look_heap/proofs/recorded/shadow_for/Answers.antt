@@ -1,6 +1,6 @@
 use Rattle.std.proofs.Common.{◌≡◌, ◌∙◌, ◌==◌, ap}
 use Rattle.std.proofs.lemmas.Result.{IfOk-weaker}
-use Rattle.ckrt_look_steps.specs.Rooms.{slots_in, words_of}
+use Rattle.ckrt_look_calls.specs.Rooms.{slots_in, words_of}
 use Rattle.ckrt_look_heap.specs.Within.{Noted, fresh_within}
 use Rattle.ckrt_look_heap.proofs.recorded.shadow_for.Goals as goal
 

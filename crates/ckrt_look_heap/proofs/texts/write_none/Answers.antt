@@ -2,7 +2,7 @@ use Rattle.std.proofs.Common.{List, ℕ, codes, subst}
 use Rattle.std.proofs.lemmas.Result.{on_ok_weaker}
 use Rattle.std.specs.Io.KnownBytes.{Appends}
 use Rattle.ckrt_look_calls.proofs.AppendLemmas.{appends_both}
-use Rattle.ckrt_look_steps.specs.Rows.{stretch_text}
+use Rattle.ckrt_look_calls.specs.Rows.{stretch_text}
 use Rattle.ckrt_look_heap.specs.Texts.{elsewhere}
 use Rattle.ckrt_look_heap.proofs.texts.write_none.Goals as goal
 

@@ -1,5 +1,5 @@
 use Rattle.ckrt_look_calls.proofs.AppendLemmas.{appends_more}
-use Rattle.ckrt_look_steps.specs.Replays.{replay_of}
+use Rattle.ckrt_look_calls.specs.Replays.{replay_of}
 use Rattle.ckrt_look_races.specs.Again.{race_text}
 use Rattle.ckrt_look_races.proofs.again.write_each.Goals as goal
 

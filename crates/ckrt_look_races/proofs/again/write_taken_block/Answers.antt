@@ -2,9 +2,9 @@ use Rattle.std.proofs.Common.{subst}
 use Rattle.std.proofs.lemmas.Result.{on_ok_weaker}
 use Rattle.std.specs.Io.KnownBytes.{Appends}
 use Rattle.ckrt_look_calls.proofs.AppendLemmas.{appends_both}
-use Rattle.ckrt_look_steps.specs.Moments.{made_text}
-use Rattle.ckrt_look_steps.specs.Replays.{replay_of}
-use Rattle.ckrt_look_steps.specs.declared.moment.Moment.{Moment}
+use Rattle.ckrt_look_calls.specs.Moments.{made_text}
+use Rattle.ckrt_look_calls.specs.Replays.{replay_of}
+use Rattle.ckrt_look_calls.specs.declared.moment.Moment.{Moment}
 use Rattle.ckrt_look_races.specs.Again.{block_line, taken_at}
 use Rattle.ckrt_look_races.proofs.again.write_taken_block.Goals as goal
 

@@ -1,5 +1,5 @@
 use Rattle.ckrt_look_calls.proofs.AppendLemmas.{appends_more}
-use Rattle.ckrt_look_steps.specs.Replays.{replay_of}
+use Rattle.ckrt_look_calls.specs.Replays.{replay_of}
 use Rattle.ckrt_look_races.specs.Inversions.{link_lines}
 use Rattle.ckrt_look_races.proofs.cycles_again.write_links.Goals as goal
 

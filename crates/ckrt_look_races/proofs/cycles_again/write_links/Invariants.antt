@@ -1,7 +1,7 @@
 use Rattle.std.proofs.Common.{take}
 use Rattle.std.specs.List.{flat_map}
 use Rattle.std.specs.Io.KnownBytes.{Appends}
-use Rattle.ckrt_look_steps.specs.Replays.{IsBehind, replay_of}
+use Rattle.ckrt_look_calls.specs.Replays.{IsBehind, replay_of}
 use Rattle.ckrt_look_races.specs.Inversions.{link_lines}
 use Rattle.ckrt_look_races.proofs.cycles_again.write_links.Given as goal
 

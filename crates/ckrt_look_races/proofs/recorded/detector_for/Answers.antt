@@ -2,7 +2,7 @@ use Rattle.std.proofs.Common.{◌≡◌, ◌∙◌, ap}
 use Rattle.std.proofs.lemmas.Result.{IfOk-weaker}
 use Rattle.ckrt_look_clocks.specs.Within.{Detected, fresh_within}
 use Rattle.ckrt_look_races.specs.Holders.{HOLDERS}
-use Rattle.ckrt_look_steps.specs.Rooms.{slots_in, words_of}
+use Rattle.ckrt_look_calls.specs.Rooms.{slots_in, words_of}
 use Rattle.ckrt_look_races.proofs.recorded.detector_for.Goals as goal
 
 -- with a word for each of the memory

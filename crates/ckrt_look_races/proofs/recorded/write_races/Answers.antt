@@ -10,7 +10,7 @@ use Rattle.ckrt_look_clocks.proofs.WithinLemmas.{nothing_left_out}
 use Rattle.ckrt_look_races.specs.Again.{race_text}
 use Rattle.ckrt_look_races.specs.Holders.{HOLDERS}
 use Rattle.ckrt_look_races.specs.Inversions.{inversion_text, orders_text}
-use Rattle.ckrt_look_steps.specs.Rooms.{slots_in, words_of}
+use Rattle.ckrt_look_calls.specs.Rooms.{slots_in, words_of}
 use Rattle.ckrt_look_races.specs.Recorded.{FillsRoom, found_by, fresh_for, orders_by, replay}
 use Rattle.ckrt_look_races.specs.Steps.{of_events}
 use Rattle.ckrt_look_races.specs.Texts.{found_text}

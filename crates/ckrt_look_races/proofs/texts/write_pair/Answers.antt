@@ -2,7 +2,7 @@ use Rattle.std.proofs.Common.{◌++◌, rules, codes}
 use Rattle.std.proofs.lemmas.Result.{on_ok_weaker}
 use Rattle.std.specs.Io.KnownBytes.{Appends}
 use Rattle.ckrt_look_calls.proofs.AppendLemmas.{appends_both}
-use Rattle.ckrt_look_steps.specs.Rows.{times_text}
+use Rattle.ckrt_look_calls.specs.Rows.{times_text}
 use Rattle.ckrt_look_races.specs.Texts.{both_text}
 use Rattle.ckrt_look_races.proofs.texts.write_pair.Goals as goal
 

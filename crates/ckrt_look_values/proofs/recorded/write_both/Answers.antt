@@ -1,6 +1,6 @@
 use Rattle.std.proofs.lemmas.Result.{on_ok_weaker}
 use Rattle.ckrt_look_calls.proofs.AppendLemmas.{appends_both}
-use Rattle.ckrt_look_steps.specs.Replays.{replay_of}
+use Rattle.ckrt_look_calls.specs.Replays.{replay_of}
 use Rattle.ckrt_look_heap.specs.Recorded.{text_by}
 use Rattle.ckrt_look_values.specs.Recorded.{found_text}
 use Rattle.ckrt_look_values.proofs.recorded.write_both.Goals as goal

@@ -6,8 +6,8 @@ use Rattle.std.proofs.lemmas.Result.{on_ok_weaker}
 use Rattle.std.specs.Io.KnownBytes.{Appends}
 use Rattle.ckrt_machine.specs.Steps.{State}
 use Rattle.ckrt_look_calls.specs.Stretches.{IsEventsFault}
-use Rattle.ckrt_look_steps.specs.Walks.{after_events}
-use Rattle.ckrt_look_steps.specs.Rooms.{words_of}
+use Rattle.ckrt_look_calls.specs.Walks.{after_events}
+use Rattle.ckrt_look_calls.specs.Rooms.{words_of}
 use Rattle.ckrt_look_heap.specs.Recorded.{FillsRoom, errors_text, heap_behind, replay, text_by}
 use Rattle.ckrt_look_heap.specs.Shadow.{Heap}
 use Rattle.ckrt_look_heap.specs.Within.{is_full}

@@ -2,7 +2,7 @@ use Rattle.std.proofs.Common.{rules, ◌≡◌, [], false, refl, sym, ap, subst}
 use Rattle.std.specs.Prelude.{is_err}
 use Rattle.ckrt_disk.proofs.FrameLemmas.{where_ok}
 use Rattle.ckrt_disk.specs.contracts.memory.MemoryDiskDisk.TheImpl as memory
-use Rattle.ckrt_drive_theorem.proofs.LeftLemmas.{starts_formatted}
+use Rattle.ckrt_drive.proofs.LeftLemmas.{starts_formatted}
 use Rattle.ckrt_recovery.specs.View.{View}
 use Rattle.ckrt_stored.specs.Programs.{RecoversToStart}
 use Rattle.ckrt_witness.proofs.closed_areas.saved.Goals as goal

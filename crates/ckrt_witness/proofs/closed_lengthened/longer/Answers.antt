@@ -1,6 +1,6 @@
 use Rattle.std.proofs.Common.{◌≡◌, ◌∙◌, ◌<◌, ◌++◌, List, ℕ, length, replicate, ap, sym, subst}
 use Rattle.ckrt_disk.specs.contracts.memory.MemoryDiskDisk.TheImpl as memory
-use Rattle.ckrt_drive_theorem.specs.Lengthening.{IsLonger}
+use Rattle.ckrt_drive.specs.Lengthening.{IsLonger}
 use Rattle.ckrt_stored.specs.Programs.{RecoversToStart}
 use Rattle.ckrt_witness.proofs.closed_lengthened.longer.Goals as goal
 

@@ -4,7 +4,7 @@ use Rattle.ckrt_drive.specs.Given.{CountsRead}
 use Rattle.ckrt_drive.specs.Runs.{Runs}
 use Rattle.ckrt_drive.specs.declared.fault.DriveFault.{DriveFault}
 use Rattle.ckrt_drive.specs.declared.fault.DriveFault.TheVariants.{Input}
-use Rattle.ckrt_drive_theorem.proofs.LeftLemmas.{starts_formatted}
+use Rattle.ckrt_drive.proofs.LeftLemmas.{starts_formatted}
 use Rattle.ckrt_schedule.specs.declared.next.ScheduleEnd.{ScheduleEnd}
 use Rattle.ckrt_witness.proofs.stopping.fail_by_input.Goals as goal
 

@@ -1,8 +1,0 @@
-use Rattle.ckrt_drive_theorem.proofs.RecordingLemmas.{all_recorded, formatted_recorded}
-use Rattle.ckrt_drive_theorem.proofs.laws.drives_record_their_events.Goals as goal
-
-pub returns-clause-formatted : goal.returns-clause-formatted
-returns-clause-formatted g c = λ p old made. formatted_recorded g.D.Disk p old c.args.disk.now made
-
-pub returns-clause-many : goal.returns-clause-many
-returns-clause-many g c = λ h v more stand behind keep. all_recorded h v more stand behind keep

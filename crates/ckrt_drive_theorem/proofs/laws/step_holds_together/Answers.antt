@@ -1,6 +1,0 @@
-use Rattle.ckrt_drive_theorem.proofs.StepTogether.{step_together}
-use Rattle.ckrt_drive_theorem.proofs.laws.step_holds_together.Goals as goal
-
-pub returns : goal.returns
-returns g c = λ planned result h honest whole p events reps held old spared image left.
-    step_together g.O.Disk planned c.args.before.now c.args.after.now c.args.output.now c.args.end.now g.met.D.Disk.only_now g.met.O.Disk.only_now result h honest whole p events reps held old spared image left

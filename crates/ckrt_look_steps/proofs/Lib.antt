@@ -1,5 +1,0 @@
-pub mod FullLemmas
-pub mod PartLemmas
-pub mod WalkLemmas
-pub mod CallerLemmas
-pub mod ReplayLemmas

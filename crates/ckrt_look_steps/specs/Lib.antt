@@ -1,6 +1,0 @@
-pub mod Steppings
-pub mod Walks
-pub mod Rooms
-pub mod Replays
-pub mod Moments
-pub mod Rows
