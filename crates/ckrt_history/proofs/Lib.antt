@@ -26,3 +26,7 @@ pub mod StandLemmas
 pub mod OpenedLemmas
 pub mod BesideLemmas
 pub mod ManyLemmas
+pub mod SizeLemmas
+pub mod PartLemmas
+pub mod LaidLemmas
+pub mod PartedLemmas

@@ -14,3 +14,6 @@ pub mod Keeping
 pub mod Kept
 pub mod Opening
 pub mod Many
+pub mod Sizes
+pub mod Parting
+pub mod Excerpts

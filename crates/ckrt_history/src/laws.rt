@@ -4,6 +4,7 @@ ghost use Rattle.ckrt_history.specs.Either.{IsHistoryByFront};
 ghost use Rattle.ckrt_history.specs.History.{HasNoFault, IsRecordedOnce};
 ghost use Rattle.ckrt_history.specs.Kept.{BeginsAtEnd, GoesOnTogether, KeepsOn};
 ghost use Rattle.ckrt_history.specs.Many.{BeginBeside, KeepsTheAcknowledged, RecordingsAreTheirs, RunsStandBeside};
+ghost use Rattle.ckrt_history.specs.Parting.{PartsAreTheirs};
 
 use ckrt_disk::Disk;
 
@@ -51,3 +52,9 @@ pub fn runs_stand_beside_a_history<D: Disk, O: Disk, K: Disk>()
 {
     ckrt_drive::recovery_keeps_recorded::<D>();
 }
+
+/// A part of what is a history of a program's events is a history of a beginning of them: it begins with the plain fold's state behind the
+/// first ones, and has those that follow, in order.
+pub fn parts_have_the_same_events()
+    ensures { PartsAreTheirs }
+{}
