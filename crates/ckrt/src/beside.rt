@@ -338,7 +338,7 @@ pub fn reported(alloc: Global, beside: Beside<'_>) -> Beside<'_> {
     }
 }
 
-/// The names that a history gets of its disk, where that has some.
+/// The names that a history gets of its disk, or a part of its history, where that has some.
 pub fn gift_of_disk<R: Files<File = File>>(rt: &R, alloc: Global, disk: &str) -> Option<Vec<u8>> {
     match names_of_disk(rt, alloc, disk) {
         Ok(Some(names)) => copy_of(alloc, &names).ok(),
@@ -346,15 +346,16 @@ pub fn gift_of_disk<R: Files<File = File>>(rt: &R, alloc: Global, disk: &str) ->
     }
 }
 
-/// The names for a job that keeps a history of a disk. Nothing is printed by them.
+/// The names for a job that keeps a history of a disk, or makes a part of one. Nothing is printed by them.
 fn of_history<'a, R: Files<File = File>>(
     rt: &R,
     alloc: Global,
     job: &HistoryJob<'a>,
 ) -> Beside<'a> {
-    let gift = match job.disk {
-        Some(disk) => gift_of_disk(rt, alloc, disk),
-        None => None,
+    let gift = match (job.part, job.disk) {
+        (Some(_), _) => gift_of_disk(rt, alloc, job.file),
+        (None, Some(disk)) => gift_of_disk(rt, alloc, disk),
+        (None, None) => None,
     };
     Beside {
         printed: Names::none(alloc),

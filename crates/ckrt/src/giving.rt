@@ -1,4 +1,4 @@
-//! Names that a disk gets with its image, and a history of its disk. What has their path and isn't a file of names stays, and so does each other file of the job.
+//! Names that a disk gets with its image, a history of its disk, and a part of its history. What has their path and isn't a file of names stays, and so does each other file of the job.
 use crate::beside::{is_missing, names_path, read_front};
 use ckrt_cli_words::{DriveJob, HuntJob, Job};
 use ckrt_hunt_schedules::MOST_OUTCOMES;
@@ -298,7 +298,11 @@ impl Giving {
             },
             Job::Drive(job) => self.end_drive(rt, job, status),
             Job::History(job) if status == 0 => {
-                self.give(rt, job.file, [job.disk, None, None, None, None])?;
+                let (given, source) = match job.part {
+                    Some(part) => (part, Some(job.file)),
+                    None => (job.file, job.disk),
+                };
+                self.give(rt, given, [source, None, None, None, None])?;
                 Ok(())
             }
             _ => Ok(()),

@@ -8,9 +8,11 @@ use Rattle.ckrt_cli_files.specs.Openings.{Openings}
 use Rattle.ckrt_cli_reports.specs.Outside.{Outside}
 use Rattle.ckrt_cli_reports.specs.declared.fault.JobFault.{JobFault}
 use Rattle.ckrt_cli.specs.Debugging.{ReadsAt}
-use Rattle.ckrt_cli.specs.Histories.{JoinsOpened, JoinsWith, LacksHistory, MeasuresOpened}
+use Rattle.ckrt_cli.specs.Histories.{LacksMade, MakesOpened, MakesWith, MeasuresOpened, files_of, place}
+use Rattle.ckrt_cli.specs.declared.made.Origin.{Origin}
 use Rattle.ckrt_cli.specs.Looking.{LooksAt, sight}
 use Rattle.ckrt_cli_files.specs.Openings.{opened, with_history}
+use Rattle.ckrt_cli_files.specs.declared.file.JobFile.{JobFile}
 use Rattle.ckrt_cli_files.specs.declared.output.OpenedOutput.{OpenedOutput}
 use Rattle.ckrt_history.specs.declared.joined.Joined.{Joined}
 use Rattle.ckrt_history.specs.declared.span.Span.{Span}
@@ -82,50 +84,52 @@ measured_there d P it asked₁ asked new result there same o =
       start = o.start;
       is_opened = subst P (sym o.is_opened) there;
       end = o.end;
+      answer = o.answer;
+      gives = o.gives;
       measures = o.measures;
       closes = o.closes;
     })
 
 -- the file that was opened to have a history
-pub joined_there : {D : Type 0} (d : Ghosts D) (P : D → Type 0) (Q : OpenedOutput D → Type 0) (it : OpenedOutput D) (asked₁ asked new : Openings D) (result : Result (Option Joined × Span) JobFault)
-    → Q it → asked₁ ≡ asked → JoinsOpened d P (λ x. x ≡ it) asked₁ new result → JoinsOpened d P Q asked new result
-joined_there d P Q it asked₁ asked new result there same o =
-    subst (λ x. JoinsOpened d P Q x new result) same (record {
-      disk = o.disk;
-      is_disk = o.is_disk;
+pub made_there : {D : Type 0} (d : Ghosts D) (kind : Origin) (P : D → Type 0) (Q : OpenedOutput D → Type 0) (it : OpenedOutput D) (asked₁ asked new : Openings D) (result : Result (Option Joined × Span) JobFault)
+    → Q it → asked₁ ≡ asked → MakesOpened d kind P (λ x. x ≡ it) asked₁ new result → MakesOpened d kind P Q asked new result
+made_there d kind P Q it asked₁ asked new result there same o =
+    subst (λ x. MakesOpened d kind P Q x new result) same (record {
+      source = o.source;
+      is_source = o.is_source;
       output = o.output;
       is_output = subst Q (sym o.is_output) there;
       end = o.end;
-      joins = o.joins;
+      makes = o.makes;
       closes = o.closes;
     })
 
--- and the disk that was opened for it, where no more outputs may be given behind that
-module _ {D : Type 0} (d : Ghosts D) (P : D → Type 0) (it : D) (path : List ℕ) (O₁ O : OpenedOutput D → Type 0) (there : P it) (fewer : (x : OpenedOutput D) → O₁ x → O x) where
-  lacks : (asked new : Openings D) (result : Result (Option Joined × Span) JobFault) → LacksHistory (λ x. x ≡ it) path asked new result → LacksHistory P path asked new result
-  lacks asked new result o = record {
-    disk = o.disk;
-    is_disk = subst P (sym o.is_disk) there;
+-- and what was opened that it is made of, where no more outputs may be given behind that
+module _ {D : Type 0} (d : Ghosts D) (kind : Origin) (P : D → Type 0) (it : D) (path : List ℕ) (O₁ O : OpenedOutput D → Type 0) (there : P it) (fewer : (x : OpenedOutput D) → O₁ x → O x) where
+  lacks : (at : JobFile) (asked new : Openings D) (result : Result (Option Joined × Span) JobFault) → LacksMade at (λ x. x ≡ it) path asked new result → LacksMade at P path asked new result
+  lacks at asked new result o = record {
+    source = o.source;
+    is_source = subst P (sym o.is_source) there;
     why = o.why;
     is = o.is;
     closes = o.closes;
   }
 
-  joins : (asked new : Openings D) (result : Result (Option Joined × Span) JobFault) → JoinsOpened d (λ x. x ≡ it) O₁ asked new result → JoinsOpened d P O asked new result
-  joins asked new result o = record {
-    disk = o.disk;
-    is_disk = subst P (sym o.is_disk) there;
+  makes : (asked new : Openings D) (result : Result (Option Joined × Span) JobFault) → MakesOpened d kind (λ x. x ≡ it) O₁ asked new result → MakesOpened d kind P O asked new result
+  makes asked new result o = record {
+    source = o.source;
+    is_source = subst P (sym o.is_source) there;
     output = o.output;
     is_output = fewer o.output o.is_output;
     end = o.end;
-    joins = o.joins;
+    makes = o.makes;
     closes = o.closes;
   }
 
-  by_kind : (asked new : Openings D) (result : Result (Option Joined × Span) JobFault) → JoinsWith d (λ x. x ≡ it) (record { path = path; Outputs = O₁ }) asked new result → JoinsWith d P (record { path = path; Outputs = O }) asked new result
-  by_kind asked new result (inl o) = inl (lacks asked new result o)
-  by_kind asked new result (inr o) = inr (joins (with_history asked (opened path)) new result o)
+  by_kind : (asked new : Openings D) (result : Result (Option Joined × Span) JobFault) → MakesWith d kind (λ x. x ≡ it) (place path O₁) asked new result → MakesWith d kind P (place path O) asked new result
+  by_kind asked new result (inl o) = inl (lacks (files_of kind).1 asked new result o)
+  by_kind asked new result (inr o) = inr (makes (with_history asked (opened path)) new result o)
 
-  pub with_there : (asked₁ asked new : Openings D) (result : Result (Option Joined × Span) JobFault) → asked₁ ≡ asked → JoinsWith d (λ x. x ≡ it) (record { path = path; Outputs = O₁ }) asked₁ new result → JoinsWith d P (record { path = path; Outputs = O }) asked new result
+  pub with_there : (asked₁ asked new : Openings D) (result : Result (Option Joined × Span) JobFault) → asked₁ ≡ asked → MakesWith d kind (λ x. x ≡ it) (place path O₁) asked₁ new result → MakesWith d kind P (place path O) asked new result
   with_there asked₁ asked new result same o =
-      subst (λ x. JoinsWith d P (record { path = path; Outputs = O }) x new result) same (by_kind asked₁ new result o)
+      subst (λ x. MakesWith d kind P (place path O) x new result) same (by_kind asked₁ new result o)

@@ -34,7 +34,7 @@ use Rattle.ckrt_cli_words.specs.declared.job.ProfileForm.{ProfileForm}
 use Rattle.ckrt_cli_words.specs.declared.job.ProfileForm.TheVariants as asked
 use Rattle.ckrt_cli_files.specs.Openings.{opened, with_closed, with_disk}
 use Rattle.ckrt_cli_reports.specs.Outside.{IsRefused, Outside, asked_for}
-use Rattle.ckrt_cli_reports.specs.Ranges.{is_room}
+use Rattle.ckrt_cli_reports.specs.Ranges.{ends_before, is_room}
 use Rattle.ckrt_cli_reports.specs.declared.fault.JobFault.{JobFault}
 use Rattle.ckrt_cli_reports.specs.declared.fault.JobFault.TheVariants as job
 
@@ -113,11 +113,6 @@ LooksThere d it old new result =
     IsRefused it.stretch.disk old new result
     ⊎ LooksAt it.stretch.history d it
     (asked_for old (with_disk old.openings (opened it.stretch.disk))) new result
-
--- a stretch that would end before it begins
-abbrev pub ends_before : (from to : Option ℕ) → Bool
-ends_before (Some from) (Some to) = nat_lt to from
-ends_before from to = false
 
 -- What the disk or the history of the job's path has recorded was told, or why it wasn't. Of a stretch that would end before it begins nothing was asked for.
 abbrev pub LooksPath : {D : Type 0} → Ghosts D → Sight D → (old new : Outside D)

@@ -53,8 +53,10 @@
 //! The job that keeps a history of a disk.
 //!
 //! Proved of [`history_path`]: the history that the words name is only read where they name no disk. Else it is begun from the disk or
-//! brought up to it, and the disk is only read: a stop at any moment leaves of the file what `ckrt_history` says. What was written are the
-//! lines of how far it goes, or nothing where there is a fault, unless the writer failed. Of the looks, with `--history`: that what is told is
+//! brought up to it, and the disk is only read: a stop at any moment leaves of the file what `ckrt_history` says. Where they name a part, that is
+//! made of the history, which is only read, and a stop leaves of the part's file what `ckrt_history` says. Range comes exactly where the words
+//! don't go together or a part would end before it begins, and then nothing is opened. What was written are the
+//! lines of how far it goes, or the part, or nothing where there is a fault, unless the writer failed. Of the looks, with `--history`: that what is told is
 //! what the history has recorded.
 //!
 //! The promise of many drives from the words of the program on: runs of one command, one after another.
@@ -73,6 +75,7 @@ mod laws;
 mod listing;
 mod look_laws;
 mod looking;
+mod made;
 mod profile;
 mod program;
 mod races;

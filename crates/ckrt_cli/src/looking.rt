@@ -4,10 +4,10 @@ ghost use Rattle.ckrt_disk.specs.Frame.{IsOnlyRead};
 ghost use Rattle.ckrt_inspect.specs.Inspect.{is_device};
 ghost use Rattle.ckrt_cli_words.specs.Jobs.{disk_stretch_of};
 ghost use Rattle.ckrt_cli_reports.specs.Outside.{outside};
-ghost use Rattle.ckrt_cli.specs.Looking.{LooksAt, LooksInHistory, LooksOpened, LooksPath, LooksThere, answer_of, ends_before, sight, stretch_of};
+ghost use Rattle.ckrt_cli.specs.Looking.{LooksAt, LooksInHistory, LooksOpened, LooksPath, LooksThere, answer_of, sight, stretch_of};
 
 use ckrt_cli_files::{JobFile, Sources};
-use ckrt_cli_reports::JobFault;
+use ckrt_cli_reports::{JobFault, ends_before};
 use ckrt_cli_words::StretchJob;
 use ckrt_disk::Disk;
 use ckrt_history::read_history;
@@ -123,16 +123,6 @@ fn look_there<'a, I: Read, D: Disk, S: Sources<'a, I, D>, T: Telling, W: Write>(
             look_at_opened::<I, D, S, T, W>(alloc, opened, job, telling, sources, writer)
         }
         Err(fault) => Err(JobFault::File(JobFile::Disk, fault)),
-    }
-}
-
-/// Whether a stretch would end before it begins.
-fn ends_before(from: Option<u64>, to: Option<u64>) -> bool
-    ensures { result ≡ ends_before from to }
-{
-    match (from, to) {
-        (Some(from), Some(to)) => to < from,
-        _ => false,
     }
 }
 

@@ -27,6 +27,8 @@ pub enum JobFile {
     FirstKept,
     /// The history.
     History,
+    /// The part of a history that is made.
+    Part,
 }
 
 /// Why a file can't be opened, read, locked or filled.
@@ -143,6 +145,7 @@ impl JobFile {
             JobFile::Core => "the core ",
             JobFile::Kept | JobFile::FirstKept => "the disk ",
             JobFile::History => "the history ",
+            JobFile::Part => "the part ",
         }
     }
 
@@ -157,7 +160,8 @@ impl JobFile {
             | JobFile::Output
             | JobFile::Core
             | JobFile::Kept
-            | JobFile::History => "",
+            | JobFile::History
+            | JobFile::Part => "",
         }
     }
 }

@@ -92,3 +92,5 @@ name_of (job.History f) = name_of_history f
 name_of job.HistoryFull = codes "TooSmall"
 name_of job.HistoryBehind = codes "HistoryBehind"
 name_of job.HistoryDiffers = codes "HistoryDiffers"
+name_of (job.Part f) = name_of_history f
+name_of job.PartFull = codes "TooSmall"

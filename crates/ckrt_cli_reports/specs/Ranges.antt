@@ -1,8 +1,8 @@
 -- The numbers of the words: what is given where they have none, and which of them are in their ranges.
-use Rattle.std.specs.Prelude.{◌&&◌, ◌||◌, ℕ, nat_lt, nat_le, Bool, true, false, List, not, Option, Some, None, unwrap_or}
+use Rattle.std.specs.Prelude.{◌&&◌, ◌||◌, ℕ, nat_lt, nat_le, Bool, true, false, List, not, Option, Some, None, is_some, unwrap_or}
 use Rattle.ckrt_stored.specs.declared.config.Config.{Config}
 use Rattle.ckrt_drive.specs.Slot.{TAKEN_LIMIT}
-use Rattle.ckrt_cli_words.specs.Jobs.{Driving, Hunting}
+use Rattle.ckrt_cli_words.specs.Jobs.{Driving, HistoryKeeping, Hunting}
 use Rattle.ckrt_cli_words.specs.declared.job.Sizes.{Sizes}
 
 -- what a disk is made with: what `format` takes, where a size isn't given
@@ -68,6 +68,28 @@ is_room (Some bytes) = nat_le 1048576 bytes
 abbrev pub is_shadowed : (memory : Option ℕ) → (is_closer : Bool) → Bool
 is_shadowed None is_closer = true
 is_shadowed (Some bytes) is_closer = is_closer
+
+-- a stretch that would end before it begins
+abbrev pub ends_before : (from to : Option ℕ) → Bool
+ends_before (Some from) (Some to) = nat_lt to from
+ends_before from to = false
+
+-- a part of a history is made without a disk
+abbrev pub is_apart : (part disk : Option (List ℕ)) → Bool
+is_apart None disk = true
+is_apart (Some part) None = true
+is_apart (Some part) (Some disk) = false
+
+-- it has a first event, and nothing but a part has one, or a last one
+abbrev pub is_cut : (part : Option (List ℕ)) → (from to : Option ℕ) → Bool
+is_cut None None None = true
+is_cut None from to = false
+is_cut (Some part) from to = is_some from
+
+-- what `history` is told
+abbrev pub is_history_in_range : HistoryKeeping → Bool
+is_history_in_range k =
+    is_apart k.part k.disk && (is_cut k.part k.from k.to && not (ends_before k.from k.to))
 
 -- what a hunt is told besides its sizes and the text of its seeds
 abbrev pub is_hunt_in_range : Hunting → Bool

@@ -64,6 +64,10 @@ pub enum JobFault {
     HistoryBehind,
     /// The history is of another program than the disk, or has other events, or more.
     HistoryDiffers,
+    /// Its file isn't free for a part of a history, or failed a call.
+    Part(HistoryFault),
+    /// The file of the part can't have so many bytes.
+    PartFull,
 }
 
 /// What is said where the disk failed a call.
@@ -248,6 +252,21 @@ fn history_advice(fault: HistoryFault) -> &'static str {
     }
 }
 
+/// What is said of a fault of a part that is made of a history.
+fn part_advice(fault: HistoryFault) -> &'static str {
+    match fault {
+        HistoryFault::NotAHistory => {
+            "it has a history already, or something else, and is unchanged; give another path, or remove it first"
+        }
+        HistoryFault::Device => {
+            "a read, write or sync failed; look after its device and the room there, remove it, and give the same command again"
+        }
+        HistoryFault::Version | HistoryFault::Damaged | HistoryFault::OutOfMemory => {
+            history_advice(fault)
+        }
+    }
+}
+
 /// The name of a fault of a history.
 fn history_name(fault: HistoryFault) -> &'static str
     ensures { result.now ≡ name_of_history fault }
@@ -329,12 +348,15 @@ impl JobFault {
             JobFault::HistoryFull => "TooSmall",
             JobFault::HistoryBehind => "HistoryBehind",
             JobFault::HistoryDiffers => "HistoryDiffers",
+            JobFault::Part(fault) => history_name(fault),
+            JobFault::PartFull => "TooSmall",
         }
     }
 
     /// What is wrong, in plain words, and what to do about it.
     pub fn advice(self) -> &'static str {
         match self {
+            JobFault::File(JobFile::Part, FileFault::IsDisk) => FileFault::IsHistory.text(),
             JobFault::File(_, fault) => fault.text(),
             JobFault::OutOfMemory => FileFault::OutOfMemory.text(),
             JobFault::ShadowFull => HUNTED_SHADOW_ADVICE,
@@ -357,9 +379,10 @@ impl JobFault {
             JobFault::RunTooLong => RUN_ADVICE,
             JobFault::InputTooLong => LONG_ADVICE,
             JobFault::History(fault) => history_advice(fault),
-            JobFault::HistoryFull => drive_advice(DriveFault::OutputFull),
+            JobFault::HistoryFull | JobFault::PartFull => drive_advice(DriveFault::OutputFull),
             JobFault::HistoryBehind => BEHIND_ADVICE,
             JobFault::HistoryDiffers => OTHER_ADVICE,
+            JobFault::Part(fault) => part_advice(fault),
         }
     }
 
@@ -407,6 +430,13 @@ impl JobFault {
             | JobFault::HistoryFull
             | JobFault::HistoryBehind
             | JobFault::HistoryDiffers => Some(JobFile::History),
+            JobFault::Part(
+                HistoryFault::NotAHistory
+                | HistoryFault::Version
+                | HistoryFault::Damaged
+                | HistoryFault::Device,
+            )
+            | JobFault::PartFull => Some(JobFile::Part),
             _ => None,
         }
     }

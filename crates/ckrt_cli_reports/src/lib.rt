@@ -40,7 +40,8 @@ pub use lengths::{InputLengths, OutputLengths};
 pub use meter::SystemMeter;
 pub use notes::{ProgramNotes, ScheduleNotes};
 pub use ranges::{
-    config_for, is_choice, is_hunt_in_range, is_in_range, is_room, is_target, is_time,
+    config_for, ends_before, is_choice, is_history_in_range, is_hunt_in_range, is_in_range,
+    is_room, is_target, is_time,
 };
 pub use reporter::{Reporter, Unsaid, WrittenReport};
 pub use reporting::{report, report_words, write_formatted, write_version};

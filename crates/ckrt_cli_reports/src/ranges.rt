@@ -1,9 +1,9 @@
 //! The numbers of the words: what is given where they have none, and which of them are in their ranges.
 ghost use Rattle.std.specs.Prelude.{◌≡◌, option_map};
-ghost use Rattle.ckrt_cli_words.specs.Jobs.{driving_of, hunting_of};
-ghost use Rattle.ckrt_cli_reports.specs.Ranges.{config_for, is_choice, is_hunt_in_range, is_in_range, is_intake, is_one_look, is_room, is_shadowed, is_tabled, is_target, is_time};
+ghost use Rattle.ckrt_cli_words.specs.Jobs.{driving_of, history_keeping_of, hunting_of};
+ghost use Rattle.ckrt_cli_reports.specs.Ranges.{config_for, ends_before, is_apart, is_choice, is_cut, is_history_in_range, is_hunt_in_range, is_in_range, is_intake, is_one_look, is_room, is_shadowed, is_tabled, is_target, is_time};
 
-use ckrt_cli_words::{DriveJob, HuntJob, Sizes};
+use ckrt_cli_words::{DriveJob, HistoryJob, HuntJob, Sizes};
 use ckrt_drive::TAKEN_LIMIT;
 use ckrt_events::LONG_RUN_LIMIT;
 use ckrt_recovery::Config;
@@ -101,6 +101,43 @@ pub fn is_shadowed(memory: Option<u64>, is_closer: bool) -> bool
     ensures { result ≡ is_shadowed memory is_closer }
 {
     memory.is_none() || is_closer
+}
+
+/// Whether a stretch would end before it begins.
+pub fn ends_before(from: Option<u64>, to: Option<u64>) -> bool
+    ensures { result ≡ ends_before from to }
+{
+    match (from, to) {
+        (Some(from), Some(to)) => to < from,
+        _ => false,
+    }
+}
+
+/// Whether a part of a history is made without a disk, where one is made.
+pub(crate) fn is_apart(part: Option<&str>, disk: Option<&str>) -> bool
+    ensures { result ≡ is_apart (option_map (λ path. path.now) part.entry)
+        (option_map (λ path. path.now) disk.entry) }
+{
+    part.is_none() || disk.is_none()
+}
+
+/// Whether a part has a first event, and nothing but a part has one, or a last one.
+pub(crate) fn is_cut(part: Option<&str>, from: Option<u64>, to: Option<u64>) -> bool
+    ensures { result ≡ is_cut (option_map (λ path. path.now) part.entry) from to }
+{
+    match part {
+        Some(_) => from.is_some(),
+        None => from.is_none() && to.is_none(),
+    }
+}
+
+/// Whether the words of a history go together: a disk or a part, and numbers for a part alone, which doesn't end before it begins.
+pub fn is_history_in_range(job: &HistoryJob<'_>) -> bool
+    ensures { result ≡ is_history_in_range (history_keeping_of job.now) }
+{
+    is_apart(job.part, job.disk)
+        && is_cut(job.part, job.from, job.to)
+        && !ends_before(job.from, job.to)
 }
 
 /// Whether the numbers of a hunt, but for its sizes, are in their ranges, it takes seeds from one range or by time, its runs are looked at

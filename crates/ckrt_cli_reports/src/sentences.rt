@@ -2,10 +2,11 @@
 use crate::fault::JobFault;
 use crate::notes::ScheduleNotes;
 use crate::ranges::{
-    config_for, is_choice, is_one_look, is_room, is_shadowed, is_tabled, is_target, is_time,
+    config_for, is_apart, is_choice, is_cut, is_one_look, is_room, is_shadowed, is_tabled,
+    is_target, is_time,
 };
 use ckrt_cli_files::JobFile;
-use ckrt_cli_words::{DriveJob, HuntJob, Job, ShadowJob, TimelineJob};
+use ckrt_cli_words::{DriveJob, HistoryJob, HuntJob, Job, ShadowJob, TimelineJob};
 use ckrt_events::LONG_RUN_LIMIT;
 use ckrt_recovery::{Config, FormatFault};
 use ckrt_stored::ScheduleNote;
@@ -156,7 +157,21 @@ fn unfit_hunt(job: &HuntJob<'_>) -> Sentence<'static> {
     )
 }
 
-/// Which number of the words is the fault Range, where they ask for a drive, for a stretch, for a timeline or for a hunt.
+/// Which words of a history don't go together.
+fn unfit_history(job: &HistoryJob<'_>) -> Sentence<'static> {
+    if !is_apart(job.part, job.disk) {
+        return plain("--part doesn't go with --disk: ");
+    }
+    if is_cut(job.part, job.from, job.to) {
+        return plain(TURNED);
+    }
+    match job.part {
+        Some(_) => plain("--part goes with --from: "),
+        None => plain("--from and --to go with --part alone: "),
+    }
+}
+
+/// Which number of the words is the fault Range, where they ask for a drive, for a stretch, for a timeline, for a hunt or for a history.
 fn unfit(job: &Job<'_>) -> Sentence<'static> {
     match job {
         Job::Drive(job) => unfit_drive(job),
@@ -164,6 +179,7 @@ fn unfit(job: &Job<'_>) -> Sentence<'static> {
         Job::Races(job) | Job::Check(job) => unfit_shadow(job),
         Job::Timeline(job) => unfit_drawing(job),
         Job::Hunt(job) => unfit_hunt(job),
+        Job::History(job) => unfit_history(job),
         _ => plain(""),
     }
 }
@@ -275,7 +291,7 @@ const DISK_IN_FOLDER: &str = "the disk of that run, in ";
 /// What stands for the path of an output that is printed.
 const STANDARD_OUTPUT: &str = "(standard output)";
 
-/// The path in the place of the disk's, and whether it is that of a history, of a job that looks back.
+/// The path in the place of the disk's, and whether it is that of a history, of a job that looks back or makes a part of a history.
 fn looked_at<'a>(job: &Job<'a>) -> Option<(&'a str, bool)> {
     match job {
         Job::Inspect(job) => Some((job.disk, job.history)),
@@ -285,6 +301,7 @@ fn looked_at<'a>(job: &Job<'a>) -> Option<(&'a str, bool)> {
         Job::Races(job) | Job::Check(job) => Some((job.stretch.disk, job.stretch.history)),
         Job::Timeline(job) => Some((job.stretch.disk, job.stretch.history)),
         Job::Profile(job) => Some((job.stretch.disk, job.stretch.history)),
+        Job::History(job) if job.part.is_some() => Some((job.file, true)),
         _ => None,
     }
 }
@@ -293,6 +310,7 @@ fn looked_at<'a>(job: &Job<'a>) -> Option<(&'a str, bool)> {
 fn path<'a>(job: &Job<'a>, file: JobFile) -> &'a str {
     match (job, file) {
         (Job::Core(job), JobFile::Core) => return job.file,
+        (Job::History(job), JobFile::Part) => return job.part.unwrap_or(""),
         _ => {}
     }
     if let Some((path, _)) = looked_at(job) {
@@ -327,7 +345,7 @@ fn is_into_folder(job: &Job<'_>) -> bool {
     }
 }
 
-/// Whether a job looks back at a history.
+/// Whether a job looks back at a history, or makes a part of one.
 fn is_of_history(job: &Job<'_>) -> bool {
     matches!(looked_at(job), Some((_, true)))
 }

@@ -104,7 +104,7 @@ hunt_rules : AreRules hunt_shape refl hunt_shape.rules
 hunt_rules = ((refl, inl (refl, refl)), ((refl, inl (refl, refl)), ((refl, inl (refl, refl)), ((refl, inl (refl, refl)), ((refl, inl (refl, refl)), ((refl, inl (refl, refl)), ((refl, inl (refl, refl)), ((refl, inr (inr (refl, (_, [], refl)))), ((refl, inr (inr (refl, (_, [], refl)))), ((refl, inl (refl, refl)), ((refl, inr (inr (refl, (_, [], refl)))), ((refl, inr (inr (refl, (_, [], refl)))), ((refl, inl (refl, refl)), ((refl, inl (refl, refl)), ((refl, inl (refl, refl)), ((refl, inl (refl, refl)), ((refl, inl (refl, refl)), ((refl, inr (inl refl)), tt))))))))))))))))))
 
 history_rules : AreRules history_shape refl history_shape.rules
-history_rules = ((refl, inl (refl, refl)), ((refl, inl (refl, refl)), ((refl, inr (inl refl)), tt)))
+history_rules = ((refl, inl (refl, refl)), ((refl, inl (refl, refl)), ((refl, inl (refl, refl)), ((refl, inl (refl, refl)), ((refl, inl (refl, refl)), ((refl, inr (inl refl)), tt))))))
 
 number_there : (v : Text) → accepts false (vp.Signed (pos 0) (pos 4294967295)) v ≡ true → (n : ℕ) × (number_of 32 (without_minus v) ≡ Some n)
 number_there v pass =
@@ -280,7 +280,9 @@ history_named words pass =
     let kept = level_kept history_shape refl history_rules [] nothing_held words false pass tt in
     let given = has_required history_shape rows false (level_valid history_shape [] nothing_held words false pass) refl in
     let file = value_there history_shape refl (codes "file") rows _ kept refl (given_found (codes "file") rows (both (is_given (codes "file") rows) true given).0) in
-    (history (record { file = file.0; disk = first_of (codes "disk") rows }), rw file.1 refl)
+    let disk = first_of (codes "disk") rows in
+    let part = first_of (codes "part") rows in
+    (history (record { file = file.0; disk = disk; part = part; from = place_in (codes "from") rows; to = place_in (codes "to") rows }), rw file.1 refl)
 
 -- words that the command takes ask for something, but for both forms of a profile
 abbrev IsNamed : Shape → Type 0

@@ -3,7 +3,7 @@
 -- `debug DISK [--history] [--at K]`, `races DISK [--history] [--from K] [--to K] [--last N] [--names FILE] [--memory BYTES]`,
 -- `check DISK [--history] [--from K] [--to K] [--last N] [--names FILE] [--memory BYTES]`,
 -- `timeline DISK [--history] [--from K] [--to K] [--last N] [--names FILE] [--width W] [--json]`,
--- `profile DISK [--history] [--from K] [--to K] [--last N] [--names FILE] [--folded | --callgrind]`, `history FILE [--disk DISK]`,
+-- `profile DISK [--history] [--from K] [--to K] [--last N] [--names FILE] [--folded | --callgrind]`, `history FILE [--disk DISK | --part PART --from K [--to K]]`,
 -- `hunt IMAGE [--seeds A-B | --seconds S] [--pages P] [--harts H] [--input FILE] [--steps N] [--races | --check] [--memory BYTES] [--ignore-output] [--rows] [--keep DISK | FOLDER/] [--table FILE]
 -- [--progress SECONDS] [--names FILE] [--env NAME=VALUE]` and
 -- `drive DISK [--image IMAGE] [--pages P] [--harts H] [--journal J] [--input FILE] [--input-from OFFSET] [--output FILE] [--history FILE] [--turn N] [--rounds-per-commit R] [--events N] [--seed S] [--other-schedule]
@@ -147,9 +147,12 @@ hunt_app =
 
 abbrev pub history_app : App
 history_app =
-    with_rule (with_rule (new_app (codes "history"))
+    with_rule (with_rule (with_rule (with_rule (with_rule (new_app (codes "history"))
     (needed_rule (codes "file")))
-    (option_rule (codes "disk"))
+    (option_rule (codes "disk")))
+    (option_rule (codes "part")))
+    (place_rule (codes "from")))
+    (place_rule (codes "to"))
 
 abbrev pub drive_app : App
 drive_app =

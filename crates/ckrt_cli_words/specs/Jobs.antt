@@ -117,10 +117,14 @@ pub record Driving : Type 0 where
   pub status : Option Text
   pub from : Option ℕ
 
--- what `history` looks at: which file, and which disk it is brought up to, if any
+-- what `history` looks at: which file, which disk it is brought up to, if any, and which part is made of it, if any, with the numbers of events
+-- behind which that begins and ends
 pub record HistoryKeeping : Type 0 where
   pub file : Text
   pub disk : Option Text
+  pub part : Option Text
+  pub from : Option ℕ
+  pub to : Option ℕ
 
 -- a job, by its texts and numbers alone
 pub data Request : Type 0 where
@@ -216,7 +220,13 @@ driving_of d = record {
 }
 
 abbrev pub history_keeping_of : HistoryJob → HistoryKeeping
-history_keeping_of h = record { file = h.file.now; disk = option_map (λ path. path.now) h.disk }
+history_keeping_of h = record {
+  file = h.file.now;
+  disk = option_map (λ path. path.now) h.disk;
+  part = option_map (λ path. path.now) h.part;
+  from = h.from;
+  to = h.to;
+}
 
 abbrev pub request_of : Job → Request
 request_of job.Stored = stored
@@ -389,7 +399,13 @@ driving_in rows = do
 abbrev pub history_keeping_in : List Row → Option HistoryKeeping
 history_keeping_in rows = do
   file ← first_of (codes "file") rows
-  Some (record { file = file; disk = first_of (codes "disk") rows })
+  Some (record {
+    file = file;
+    disk = first_of (codes "disk") rows;
+    part = first_of (codes "part") rows;
+    from = place_in (codes "from") rows;
+    to = place_in (codes "to") rows;
+  })
 
 -- what a command with these matches asks for
 abbrev pub request_in : Text × List Row → Option Request

@@ -169,7 +169,7 @@ fn hunt_arguments<'a>(alloc: Global) -> Result<Vec<Arg<'a>>, AllocError>
     Ok(arguments)
 }
 
-/// `history FILE [--disk DISK]`.
+/// `history FILE [--disk DISK | --part PART --from K [--to K]]`.
 fn history_command<'a>(alloc: Global) -> Result<Command<'a>, AllocError>
     ensures app { IfOk result (λ c. app_of c ≡ history_app) }
     ensures local { IfOk result (λ c. (out-Command c).has_globals ≡ false) }
@@ -177,7 +177,7 @@ fn history_command<'a>(alloc: Global) -> Result<Command<'a>, AllocError>
     let arguments = history_arguments(alloc)?;
     Command::new(alloc, "history")
         .about(
-            "Keeps all events of a disk in a file, or tells how far that goes, as `ckrt history pi.history --disk pi.disk`",
+            "Keeps all events of a disk in a file, tells how far that goes, or makes a part of it, as `ckrt history pi.history --disk pi.disk`",
         )
         .args(arguments)
 }
@@ -201,6 +201,24 @@ fn history_arguments<'a>(alloc: Global) -> Result<Vec<Arg<'a>>, AllocError>
             "disk",
             "DISK",
             "Begin the history from this disk, or append what it lacks of the disk's events"
+        ),
+        option(
+            alloc,
+            "part",
+            "PART",
+            "Make a history of this path with a part of the events of FILE; not with --disk"
+        ),
+        place(
+            alloc,
+            "from",
+            "K",
+            "Begin the part after K events; with --part alone, which wants it"
+        ),
+        place(
+            alloc,
+            "to",
+            "K",
+            "End the part after K events, not at the last one; with --part alone"
         ),
     ]?;
     Ok(arguments)

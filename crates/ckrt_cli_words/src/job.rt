@@ -32,7 +32,7 @@ pub enum Job<'a> {
     Profile(ProfileJob<'a>),
     /// Run an image by one schedule after another: `hunt IMAGE`.
     Hunt(HuntJob<'a>),
-    /// Tell how far a history goes, or bring it up to its disk: `history FILE`.
+    /// Tell how far a history goes, bring it up to its disk, or make a part of it: `history FILE`.
     History(HistoryJob<'a>),
 }
 
@@ -179,13 +179,19 @@ pub struct HuntJob<'a> {
     pub progress: Option<u64>,
 }
 
-/// Which history is looked at or brought up.
+/// Which history is looked at, brought up, or cut into parts. Which of these go together isn't looked at yet.
 #[derive(Clone, Copy, Debug, PartialEq, Eq)]
 pub struct HistoryJob<'a> {
     /// The path of the history.
     pub file: &'a str,
-    /// The path of the disk that it is brought up to; this isn't given where it is only looked at.
+    /// The path of the disk that it is brought up to; this isn't given where it isn't.
     pub disk: Option<&'a str>,
+    /// The path of the part that is made of it; this isn't given where none is.
+    pub part: Option<&'a str>,
+    /// Behind how many events the part begins; this isn't given where there is none.
+    pub from: Option<u64>,
+    /// Behind how many events the part ends; at the history's last one where this isn't given.
+    pub to: Option<u64>,
 }
 
 /// The sizes that a disk is asked to have. The numbers are as they were given, and may be out of a disk's ranges.

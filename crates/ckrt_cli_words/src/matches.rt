@@ -202,9 +202,14 @@ fn history_keeping<'a>(matches: &ArgMatches<'a>) -> Option<HistoryJob<'a>>
     ensures { option_map history_keeping_of result
         ≡ history_keeping_in (rows_of (found_of matches.now)) }
 {
+    let (disk, part) = (text(matches, "disk"), text(matches, "part"));
+    let (from, to) = (place(matches, "from"), place(matches, "to"));
     Some(HistoryJob {
         file: text(matches, "file")?,
-        disk: text(matches, "disk"),
+        disk,
+        part,
+        from,
+        to,
     })
 }
 

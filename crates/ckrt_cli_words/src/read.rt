@@ -66,6 +66,10 @@ const BOTH_FORMS: &str = "error: the argument '--folded' cannot be used with '--
 const HUNT_USAGE: &str =
     "Usage: ckrt hunt <IMAGE> [--seeds FIRST-LAST | --seconds 1 to 31536000] [--pages 16 to 65536] [--harts 1 to 8] [--input <FILE>] [--steps NUMBER OF STEPS] [--races | --check] [--memory BYTES] [--ignore-output] [--rows] [--keep <DISK>] [--table <FILE>] [--progress SECONDS] [--names <FILE>] [--env NAME=VALUE] [-- ARGUMENTS]";
 
+/// What follows a number of `history` that isn't one.
+const HISTORY_USAGE: &str =
+    "Usage: ckrt history <FILE> [--disk <DISK> | --part <PART> --from NUMBER OF EVENTS [--to NUMBER OF EVENTS]]";
+
 /// What follows a number of `drive` that isn't one.
 const DRIVE_USAGE: &str =
     "Usage: ckrt drive <DISK> [--image <IMAGE>] [--pages 16 to 65536] [--harts 1 to 8] [--journal 4096 to 1048576 by 4096] [--input <FILE>] [--input-from OFFSET] [--output <FILE>] [--history <FILE>] [--turn 1 to 1000000] [--rounds-per-commit NUMBER OF ROUNDS] [--events NUMBER OF EVENTS] [--seed NUMBER] [--other-schedule] [--progress SECONDS] [--status <FILE>] [--from OFFSET] [--names <FILE>] [--env NAME=VALUE] [-- ARGUMENTS]";
@@ -83,6 +87,7 @@ fn number_usage(words: &[&str]) -> &'static str {
         Some(&"profile") => PROFILE_USAGE,
         Some(&"hunt") => HUNT_USAGE,
         Some(&"check") => CHECK_USAGE,
+        Some(&"history") => HISTORY_USAGE,
         _ => FORMAT_USAGE,
     }
 }
@@ -152,7 +157,7 @@ fn is_version(words: &[&str]) -> bool
 ///
 /// DISK of `core`, `calls`, `races`, `check`, `timeline`, `profile` and `debug` is a history where
 /// `--history` is given. It is a disk where that isn't. `history` brings FILE up to a disk where
-/// `--disk` is given. It only looks at FILE where that isn't.
+/// `--disk` is given, and makes a part of it where `--part` is. The numbers of a part have to be below 2^64. FILE is only looked at without `--disk`.
 ///
 /// `races`, `check`, `timeline` and `profile` take a stretch as `calls` does, and `races` and `check` a number of bytes below 2^64. A picture is 1,200 pixels wide where `--width` isn't given, which has
 /// to be below 2^32. `profile` is a table where no form is given; with both of its forms it names no job.

@@ -604,6 +604,56 @@ const HISTORIES: &[Told] = &[
         "the history h: it is of another program, or of another run of it, or the disk is an older copy; give the disk's own, or a new file\nckrt: HistoryDiffers\n",
     ),
     (
+        "history h --part p --from 4",
+        JobFault::File(JobFile::Part, FileFault::IsDisk),
+        "the part p: the history has this path too; give another\nckrt: File\n",
+    ),
+    (
+        "history h --part p --from 4",
+        JobFault::File(JobFile::History, FileFault::NotFound),
+        "the history h: there is no such file\nckrt: File\n",
+    ),
+    (
+        "history h --part p --from 4",
+        JobFault::Part(HistoryFault::NotAHistory),
+        "the part p: it has a history already, or something else, and is unchanged; give another path, or remove it first\nckrt: NotAHistory\n",
+    ),
+    (
+        "history h --part p --from 4",
+        JobFault::Part(HistoryFault::Device),
+        "the part p: a read, write or sync failed; look after its device and the room there, remove it, and give the same command again\nckrt: Device\n",
+    ),
+    (
+        "history h --part p --from 4",
+        JobFault::PartFull,
+        "the part p: it can't have so many bytes\nckrt: TooSmall\n",
+    ),
+    (
+        "history h --part p --from 4 --to 900",
+        JobFault::Unrecorded,
+        "the history h: it hasn't recorded all of these events, no longer or not yet; without --from, --to and --at it tells what it has\nckrt: Range\n",
+    ),
+    (
+        "history h --part p --from 4 --disk d",
+        JobFault::Range,
+        "--part doesn't go with --disk: give another, or leave it out\nckrt: Range\n",
+    ),
+    (
+        "history h --part p --to 9",
+        JobFault::Range,
+        "--part goes with --from: give another, or leave it out\nckrt: Range\n",
+    ),
+    (
+        "history h --to 4",
+        JobFault::Range,
+        "--from and --to go with --part alone: give another, or leave it out\nckrt: Range\n",
+    ),
+    (
+        "history h --part p --from 4 --to 3",
+        JobFault::Range,
+        "--from is above --to: give another, or leave it out\nckrt: Range\n",
+    ),
+    (
         "inspect --history h --at 9",
         JobFault::Unrecorded,
         "the history h: it hasn't recorded all of these events, no longer or not yet; without --from, --to and --at it tells what it has\nckrt: Range\n",

@@ -1,7 +1,7 @@
 //! Words of the program, and the jobs that they name.
 
 use crate::expect::{expect_eq, expect_eq_at};
-use ckrt_cli_words::{DriveJob, FormatJob, Job, Sizes, WordsFault, read_words};
+use ckrt_cli_words::{DriveJob, FormatJob, HistoryJob, Job, Sizes, WordsFault, read_words};
 use std::process::Abort;
 
 /// Words, and the job that they name.
@@ -228,6 +228,56 @@ const NO_DRIVE_NUMBERS: &[Unnamed] = &[
 fn a_drive_with_every_option(rt: HostRuntime) {
     expect_jobs(&rt, FULL_DRIVES);
     expect_usages(&rt, NO_DRIVE_NUMBERS);
+}
+
+const PART: HistoryJob<'static> = HistoryJob {
+    file: "h",
+    disk: None,
+    part: Some("p"),
+    from: Some(4),
+    to: Some(18_446_744_073_709_551_615),
+};
+
+const LOOK: HistoryJob<'static> = HistoryJob {
+    part: None,
+    from: None,
+    to: None,
+    ..PART
+};
+
+const BESIDE: HistoryJob<'static> = HistoryJob {
+    disk: Some("d"),
+    ..LOOK
+};
+
+const HISTORIES: &[Named] = &[
+    (&["history", "h"], Job::History(LOOK)),
+    (&["history", "h", "--disk", "d"], Job::History(BESIDE)),
+    (
+        &[
+            "history",
+            "h",
+            "--part=p",
+            "--from",
+            "4",
+            "--to=18446744073709551615",
+        ],
+        Job::History(PART),
+    ),
+];
+
+const NO_PART: &[Unnamed] = &[
+    (&["history", "h", "--part"], "--part"),
+    (
+        &["history", "h", "--part", "p", "--from", "x"],
+        "--part <PART> --from NUMBER OF EVENTS [--to NUMBER OF EVENTS]",
+    ),
+];
+
+#[test]
+fn histories_and_their_parts(rt: HostRuntime) {
+    expect_jobs(&rt, HISTORIES);
+    expect_usages(&rt, NO_PART);
 }
 
 const OUT_OF_RANGE: FormatJob<'static> = FormatJob {

@@ -13,9 +13,9 @@ pub returns-clause-app : goal.returns-clause-app
 returns-clause-app c =
     ap (λ (l : List Arg). fold with_rule (new_app (codes "history")) (map rule_of l)) c.in_ok-arguments.ensures.items
     ∙ ap (λ (l : List Rule). fold with_rule (new_app (codes "history")) l)
-    (ap₂ ◌∷◌ c.needed.ensures.rule (ap₂ ◌∷◌ c.option.ensures.rule (refl {a = no_rules})))
+    (ap₂ ◌∷◌ c.needed.ensures.rule (ap₂ ◌∷◌ c.option.ensures.rule (ap₂ ◌∷◌ c.option-2.ensures.rule (ap₂ ◌∷◌ c.place.ensures.rule (ap₂ ◌∷◌ c.place-2.ensures.rule (refl {a = no_rules}))))))
 
 pub returns-clause-local : goal.returns-clause-local
 returns-clause-local c =
     ap (λ (l : List Arg). list_all (λ a. not a.global) l) c.in_ok-arguments.ensures.items
-    ∙ (ap₂ ◌&&◌ (ap not c.needed.ensures.local) (ap₂ ◌&&◌ (ap not c.option.ensures.local) (refl {a = true})))
+    ∙ (ap₂ ◌&&◌ (ap not c.needed.ensures.local) (ap₂ ◌&&◌ (ap not c.option.ensures.local) (ap₂ ◌&&◌ (ap not c.option-2.ensures.local) (ap₂ ◌&&◌ (ap not c.place.ensures.local) (ap₂ ◌&&◌ (ap not c.place-2.ensures.local) (refl {a = true}))))))
