@@ -28,12 +28,12 @@ use Rattle.ckrt_drive.specs.Together.{Past, StandsFed}
 use Rattle.ckrt_drive.proofs.ByPlanLemmas.{end_unbroken, list_by_plan}
 use Rattle.ckrt_drive.proofs.DriveLemmas.{disk_honest, drive_keeps}
 use Rattle.ckrt_drive.proofs.TakenLemmas.{drive_given, gives, is_told}
-use Rattle.ckrt_drive.proofs.LengtheningLemmas.{tells_longer, zeros_only}
+use Rattle.ckrt_drive.proofs.LengtheningLemmas.{AreReadied, tells_longer, zeros_only}
 use Rattle.ckrt_cli.proofs.DriveRunLemmas.{is_run, told_by_record}
 use Rattle.ckrt_cli.proofs.JoinedLemmas.{Joins, honest_before, joins}
 use Rattle.ckrt_cli.specs.Promise.{Common, Drove, HasSchedule, Holds, IsAsBefore, IsKept, as_drive}
 use Rattle.ckrt_cli.proofs.LongLemmas.{long_as_all}
-use Rattle.ckrt_cli.proofs.SupplyLemmas.{Reaches, Stands, by_input, by_joined, by_notes, by_reads, by_zeros}
+use Rattle.ckrt_cli.proofs.SupplyLemmas.{Reaches, Stands, by_input, by_joined, by_notes, by_reads, stands_on}
 
 -- WHAT IT WAS TOLD
 
@@ -61,7 +61,7 @@ pub record Before {D : Type 0} (d : Ghosts D) (c : Common) (h : Past) (disk outp
 -- where a run had no drive
 pub left_alone : {D : Type 0} (d : Ghosts D) (c : Common) (h : Past) (disk output left other : D) → Before d c h disk output → IsLengthened d disk left → IsAsBefore d output other → Before d c h left other
 left_alone d c h disk output left other before longer same =
-    let s = by_zeros d h c.file output disk left longer before.stands in
+    let s = stands_on d h c.file output disk left longer.images before.stands in
     record {
       stands = record {
         together = record {
@@ -102,14 +102,20 @@ module _ {D : Type 0} (d : Ghosts D) (law : (disk : D) (image : List ℕ) → d.
     fine_supplied : d.is_honest x.came.supplied
     fine_supplied = x.came.notes.within.same.honest fine_noted
 
-    reaches : Reaches d h c.file x.came.run.output x.came.before x.came.asked x.came.supplied
-    reaches = by_input d h c.file x.came.run.output sources (record { disk = x.came.supplied; intake = x.came.intake }) j.input j.input_from x.came.looked x.came.before x.came.asked x.came.supplies kept.longer fine_supplied
-        (λ whole. by_reads d h c.file x.came.run.output x.came.found x.came.looked _ x.came.sized whole found)
+    abbrev there : D → Type 0
+    there = Stands d h c.file x.came.run.output
+
+    goes_on : (a b : D) → AreReadied d a b → there a → there b
+    goes_on = stands_on d h c.file x.came.run.output
+
+    reaches : Reaches d there goes_on x.came.before x.came.asked x.came.supplied
+    reaches = by_input d there goes_on sources (record { disk = x.came.supplied; intake = x.came.intake }) j.input j.input_from x.came.looked x.came.before x.came.asked x.came.supplies kept.longer fine_supplied
+        (λ whole. by_reads d there goes_on x.came.found x.came.looked _ x.came.sized whole found)
 
     -- and as it is recovered, with its schedule
     stands_there : Stands d h c.file x.came.run.output x.came.run.start
-    stands_there = by_joined d h c.file x.came.run.output x.came.noted x.came.run.start had.joined fine
-        (by_notes d h c.file x.came.run.output _ x.came.supplied x.came.noted x.came.notes fine_noted reaches.stands)
+    stands_there = by_joined d there goes_on x.came.noted x.came.run.start had.joined fine
+        (by_notes d there goes_on _ x.came.supplied x.came.noted x.came.notes fine_noted reaches.holds)
 
     -- so it tells as before where it was made longer, with an input
     tells : (bytes : List ℕ) → c.file ≡ Some bytes → TellsIfLonger d x.came.before x.came.asked x.came.supplied

@@ -12,3 +12,5 @@ mod InputLemmas
 pub mod JoinedLemmas
 mod KeepLemmas
 mod OpenedLemmas
+mod HistoryRunLemmas
+mod HistoryManyLemmas

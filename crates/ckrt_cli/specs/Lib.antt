@@ -2,6 +2,7 @@ pub mod Coming
 pub mod Promise
 pub mod Commands
 pub mod Runs
+pub mod HistoryRuns
 pub mod Lengths
 pub mod Performing
 pub mod Debugging

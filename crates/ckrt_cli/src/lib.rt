@@ -88,7 +88,10 @@ pub use check::check_path;
 pub use debug::debug_path;
 pub use history::history_path;
 pub use hunting::hunt_path;
-pub use laws::{commands_go_on, disks_are_left_before_drives, runs_go_on};
+pub use laws::{
+    commands_go_on, commands_go_on_beside_a_history, disks_are_left_before_drives, runs_go_on,
+    runs_go_on_beside_a_history,
+};
 pub use listing::list_path;
 pub use look_laws::{
     recorded_events_are_accepted, refused_events_are_damage, runs_that_lead_on_are_sound,
@@ -97,5 +100,5 @@ pub use look_laws::{
 pub use profile::profile_path;
 pub use program::{run_words, run_words_with};
 pub use races::races_path;
-pub use runs::{output_has_its_length, runs_are_drives, runs_are_told};
+pub use runs::{output_has_its_length, runs_are_drives, runs_are_told, runs_keep_histories};
 pub use timeline::timeline_path;

@@ -73,7 +73,7 @@ module _ {D O F : Type 0} {d : Ghosts D} {o : Ghosts O} (options : Options) (IsR
         runs = mine.runs;
         by_steps = went.runs.by_steps;
         over = λ read. own_end ran.answer mine.steps mine.ran _ mine.tells (went.runs.over read);
-        gets = (went.place, went.runs.by_keeping);
+        gets = record { place = went.place; goes = went.runs.by_keeping; same = went.runs.same };
         gives = gives;
         output = rw gives (err_kept ran.session.progress.machine.state ran.answer _ went.runs.output);
       }

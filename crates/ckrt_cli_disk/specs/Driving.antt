@@ -1,6 +1,6 @@
 -- The drive of a disk, with its input from a file, and its output in a disk of its own or on the standard output: from the words' options to
 -- the ending.
-use Rattle.std.specs.Prelude.{◌≡◌, ◌⊎◌, ◌≤◌, ◌-◌, ◌^◌, ℕ, Bool, true, false, List, Option, Some, None, Result, Ok, Err, IfErr, IfOk, IfSome, is_err, is_some}
+use Rattle.std.specs.Prelude.{◌≡◌, ◌⊎◌, ◌≤◌, ◌-◌, ◌^◌, ℕ, Bool, true, false, List, Option, Some, None, Result, Ok, Err, IfErr, IfOk, IfSome, is_err, is_some, map}
 use Rattle.ckrt_stored.specs.declared.schedule.ScheduleNote.{ScheduleNote}
 use Rattle.ckrt_disk.specs.Disk.{HasFailed}
 use Rattle.ckrt_disk.specs.Frame.{IsOnlyRead}
@@ -20,7 +20,7 @@ use Rattle.ckrt_drive.specs.Streams.{got_to, writer_of}
 use Rattle.ckrt_drive.specs.declared.fault.DriveFault.{DriveFault}
 use Rattle.ckrt_drive.specs.declared.fault.DriveFault.TheVariants.{Output}
 use Rattle.ckrt_drive.specs.declared.options.Options.{Options}
-use Rattle.ckrt_history.specs.Keeping.{GoesByKeeping, keeping_stage}
+use Rattle.ckrt_history.specs.Keeping.{GoesByKeeping, KeepingStage, keeping_stage, stages_with}
 use Rattle.ckrt_history.specs.declared.fault.HistoryFault.TheVariants as history
 use Rattle.ckrt_history.specs.declared.keeping_fault.KeepingFault.{KeepingFault}
 use Rattle.ckrt_history.specs.declared.keeping_fault.KeepingFault.TheVariants.{Device, Drive, Full}
@@ -140,16 +140,27 @@ HistoryHolds (Err (Drive fault)) = Unit {0}
 HistoryHolds (Err Device) = ⊥
 HistoryHolds (Err Full) = ⊥
 
--- What a history got while its drive went from x to y and then told this: batch by batch what the disk has, before anything else was done. Its
--- file is this one in the end. Where there is none, none fails.
-abbrev pub GetsHistory : {D O : Type 0} {d : Ghosts D} {o : Ghosts O} → Options → (x y : Stage d o)
-    → Option (KeptHistory D d) → (kept : Option D)
+-- What a history got, of which its file is this one in the end, while its drive made these steps and then told this: batch by batch what the
+-- disk has, before anything else was done, behind the drive's own steps.
+pub record KeepsSteps {D O : Type 0} {d : Ghosts D} {o : Ghosts O} {options : Options}
+    {IsRead : Type 0} {file : Option (List ℕ)} {x y : Stage d o}
+    (steps : GoesBySteps options IsRead file x y) (it : KeptHistory D d) (end : D)
+    (told : Result (Option ScheduleEnd) KeepingFault) : Type 0 where
+  pub place : OpenHistory
+  pub goes : GoesByKeeping options (keeping_stage d x it.file it.place)
+      (keeping_stage d y end place) told
+  pub same : steps.stages
+      ≡ map (λ (z : KeepingStage d o d). z.stage)
+      (stages_with goes.stages (keeping_stage d y end place) told)
+
+-- What a history got, if there is one. Where there is none, none fails.
+abbrev pub GetsHistory : {D O : Type 0} {d : Ghosts D} {o : Ghosts O} {options : Options}
+    {IsRead : Type 0} {file : Option (List ℕ)} {x y : Stage d o}
+    → GoesBySteps options IsRead file x y → Option (KeptHistory D d) → (kept : Option D)
     → (told : Result (Option ScheduleEnd) KeepingFault) → Type 0
-GetsHistory options x y None kept told = (kept ≡ None) × HistoryHolds told
-GetsHistory options x y (Some it) None told = ⊥
-GetsHistory {d = d} options x y (Some it) (Some end) told =
-    (place : OpenHistory)
-    × GoesByKeeping options (keeping_stage d x it.file it.place) (keeping_stage d y end place) told
+GetsHistory steps None kept told = (kept ≡ None) × HistoryHolds told
+GetsHistory steps (Some it) None told = ⊥
+GetsHistory steps (Some it) (Some end) told = KeepsSteps steps it end told
 
 -- From s to t, with its output from a to b, a session was driven this way: by the plan, with all its events left, up to an end.
 pub record DrivesWay {D O : Type 0} {g : Ghosts D} (o : Ghosts O) (way : Way g) (s t : Session D g)
@@ -171,8 +182,7 @@ pub record DrivesWay {D O : Type 0} {g : Ghosts D} (o : Ghosts O) (way : Way g) 
   pub over : way.IsRead
       → IfOk ran (λ ended. IfSome ended (IsOver way.options way.file (stage o left taken t b)))
   -- what the history got
-  pub gets : GetsHistory way.options (stage o way.options.events way.taken s a)
-      (stage o left taken t b) way.history way.kept told
+  pub gets : GetsHistory by_steps way.history way.kept told
   -- the program stands as it says
   pub gives : answer ≡ driven_of t.progress.machine.state told
   pub output : IfErr answer (λ fault.
