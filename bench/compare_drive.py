@@ -1,7 +1,7 @@
 """Measures `ckrt drive` on a disk in a file, alternating with the machine alone, and prints ratios.
 
 Words: the folder of the disks (the present one, if none), and jobs (`steps`, `lines`, `instructions`, `fed`, `fed-instructions`,
-`waits`; all, if none is named).
+`waits`, `history`, `history-instructions`; all, if none is named).
 
 steps: guests driven to their ends with the defaults of a drive, commits and checkpoints and an output file included, on a disk of 64
 pages, beside the machine alone with Runs of 65,535 steps; whole processes, by the clock and by processor time. A drive sleeps while the
@@ -11,6 +11,9 @@ same loop at the same place. instructions: what a step more costs each of them i
 two lengths, so that what a process does once drops out. fed: a guest that adds up a million bytes of --input, which it reads one by one by getc, beside the machine alone, which is given the
 same bytes by the same rule; whole processes. fed-instructions: what a byte more costs each of them in host instructions.
 waits: a guest that sleeps 100 times for a year of ticks, the whole process, for each wait.
+history: the guests of `steps`, by a drive that keeps a history beside one that keeps none; whole processes, by the clock and by processor
+time. The history was begun before, since that is done once. history-instructions: what a step more costs each of them in host
+instructions, and how many syncs each makes of the longer guest, which strace counts.
 """
 import re
 import statistics
@@ -18,10 +21,11 @@ import subprocess
 import sys
 from pathlib import Path
 
-from common import found, guest, make_disk, ratios_of, steps_told, sync
+from common import found, guest, make_disk, ratios_of, run, steps_told, sync, turns
 from processes import timed
 from results import note
 from shared.guests import adding_input, putting, sleeping
+from shared.stops import SYNC, calls_of
 
 LINES_GUEST = "nqueens-big"
 LONG_RUNS = 100  # of a million steps each, in a batch
@@ -31,6 +35,7 @@ ROUNDS, WAIT_ROUNDS, WAITS = 25, 31, 100
 YEAR = 365 * 86_400 * 1_000
 # Bytes that a guest puts, and rounds of two steps before each: some 4 and 8 million steps.
 PUT, BETWEEN = 20, (100_000, 200_000)
+BETWEEN_WITH_HISTORY = 400_000, 1_200_000  # some 16 and 48 million steps: so the longer one has two commits more
 JOURNAL = 1_048_576
 RECORD = 4_096  # the bytes of the record of an input, behind those of a disk
 # Bytes of an input, and of one to count the instructions of a byte more.
@@ -40,10 +45,10 @@ INPUT, LESS_INPUT = 1_000_000, 200_000
 class Bench:
     def __init__(self, folder):
         self.ckrt, self.probe = found("ckrt", "ckrt_bench_probe")
-        self.disk, self.output, self.image, self.input = (Path(folder) / f"drive.{it}" for it in ("disk", "output", "image", "input"))
+        self.files = self.disk, self.output, self.image, self.input, self.history_file = [Path(folder) / f"drive.{it}" for it in ("disk", "output", "image", "input", "history")]
 
     def remove(self):
-        for file in (self.disk, self.output, self.image, self.input):
+        for file in self.files:
             file.unlink(missing_ok=True)
 
     def make_disk(self, image):
@@ -59,7 +64,11 @@ class Bench:
     def driven(self, image):
         """What a whole drive took, and what it put."""
         self.make_disk(image)
-        spent = timed(self.drive_words(), stderr=subprocess.DEVNULL)[1]
+        return self.driven_by(self.drive_words())
+
+    def driven_by(self, words):
+        """The same of a drive of the disk that was made, by these words."""
+        spent = timed(words, stderr=subprocess.DEVNULL)[1]
         return spent, self.output.read_bytes()
 
     def machine(self, image):
@@ -171,6 +180,41 @@ class Bench:
         note("drive", "host instructions of a byte of input more", "instructions", ours, base, ("", base / ours, ""))
         print(f"a byte of input more: machine alone {base:.1f} host instructions, ckrt drive {ours:.1f}, ratio {base / ours:.3f}")
 
+    def words_on_new_disk(self, image, has_history):
+        """The words of a drive of a new disk, whose history was begun, if it keeps one."""
+        self.make_disk(image)
+        if not has_history:
+            return self.drive_words()
+        self.history_file.unlink(missing_ok=True)
+        run([self.ckrt, "history", self.history_file, "--disk", self.disk])
+        return [*self.drive_words(), "--history", self.history_file]
+
+    def history(self):
+        for name in GUESTS:
+            image, spent = guest(name), ([], [])
+            wanted, count = self.machine(image)[1:]
+            for order in turns(ROUNDS):
+                for which in order:
+                    taken, put = self.driven_by(self.words_on_new_disk(image, has_history=which == 0))
+                    spent[which].append(taken)
+                    if put != wanted:
+                        sys.exit(f"{name}: the outputs differ")
+            for part in ("processor", "clock"):
+                rates = [[count / getattr(it, part) for it in one] for one in spent]
+                self.report(f"steps with a history, {name}, {part}", rates, "steps/s", "without a history")
+
+    def history_instructions(self):
+        counts = []
+        for between in BETWEEN_WITH_HISTORY:
+            self.image.write_bytes(putting(1, PUT, between))
+            both = [self.count(self.words_on_new_disk(self.image, has_history)) for has_history in (True, False)]
+            counts.append((*both, self.machine(self.image)[2]))
+        ours, base, steps = (more - few for few, more in zip(*counts))
+        note("drive", "host instructions of a step more with a history", "instructions", ours / steps, base / steps, ("", base / ours, ""))
+        syncs = [sum(call.name == SYNC for call in calls_of(self.words_on_new_disk(self.image, has_history))) for has_history in (True, False)]
+        note("drive", "syncs of a drive with a history", "syncs", *syncs)
+        print(f"a step more: without a history {base / steps:.3f} host instructions, with one {ours / steps:.3f}, ratio {base / ours:.4f}; syncs of a drive: {syncs[1]} and {syncs[0]}")
+
     def waits(self):
         self.image.write_bytes(sleeping(WAITS, YEAR))
         times = [self.driven(self.image)[0].clock / WAITS for _ in range(WAIT_ROUNDS)]
@@ -188,7 +232,7 @@ class Bench:
 
 
 JOBS = {"steps": Bench.steps, "lines": Bench.lines, "instructions": Bench.instructions, "fed": Bench.fed, "fed-instructions": Bench.fed_instructions,
-        "waits": Bench.waits}
+        "waits": Bench.waits, "history": Bench.history, "history-instructions": Bench.history_instructions}
 
 
 def main():

@@ -5,8 +5,8 @@
 //   POWER_NOTED=N      the program is killed right behind its N-th note, where N isn't 0
 //   POWER_RESTS=N      how many microseconds pass behind each write, so that other programs come in between
 //   POWER_LACKS=KIND   syncs that aren't made, though the program is told that they were: `all`, `batch` (of a disk, behind a
-//                      write of more than one byte), `gate` (of a disk, behind a write of one byte), `output` (of a file whose
-//                      name doesn't end in `.disk`) or `folder`. They aren't noted.
+//                      write of more than one byte), `gate` (of a disk, behind a write of one byte), `history` (of a file whose
+//                      name ends in `.history`), `output` (of any other file) or `folder`. They aren't noted.
 #define _GNU_SOURCE
 #include <dlfcn.h>
 #include <fcntl.h>
@@ -41,10 +41,12 @@ static const char *name_of(int file, char *path) {
     return slash ? slash + 1 : path;
 }
 
-static bool is_disk(const char *name) {
-    size_t length = strlen(name);
-    return length > 5 && strcmp(name + length - 5, ".disk") == 0;
+static bool ends_in(const char *name, const char *end) {
+    size_t length = strlen(name), more = strlen(end);
+    return length > more && strcmp(name + length - more, end) == 0;
 }
+
+static bool is_disk(const char *name) { return ends_in(name, ".disk"); }
 
 static void put(const char *bytes, size_t count) {
     if (notes >= 0 && write(notes, bytes, count) != (ssize_t)count) {
@@ -88,7 +90,7 @@ static bool is_lacked(const char *name, bool is_folder) {
         return true;
     }
     if (is_folder || !is_disk(name)) {
-        return strcmp(lacks, is_folder ? "folder" : "output") == 0;
+        return strcmp(lacks, is_folder ? "folder" : ends_in(name, ".history") ? "history" : "output") == 0;
     }
     return strcmp(lacks, last_count == 1 ? "gate" : "batch") == 0;
 }

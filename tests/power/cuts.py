@@ -11,6 +11,7 @@ from logged_disk import Blocks, Flush, Note, Write
 FORGOTTEN = 50  # of so many writes that were flushed a forgetful device loses one
 DEVICES = "last flush", "forgetful"
 BEHIND_A_MAKER = 30  # moments
+BEGINS = b"life begun"  # lives of disks that are driven for some events
 
 
 class Leaves:
@@ -97,13 +98,14 @@ def spans_of_makers(notes):
 
 
 def moments_of(log, count, chance):
-    """Moments to cut at, rising: within any life, as a disk is made, as a write has just come, behind what was noted or printed, or as files
+    """Moments to cut at, rising: within any life, as a disk is made or begun, as a write has just come, behind what was noted or printed, or as files
     are made, if they are."""
     notes = [entry for entry in log if isinstance(entry, Note)]
     first, last = notes[0].came, notes[-1].came
     lives = [note for note in notes if note.data.startswith(b"life ")]
     spans = [(life.came, after.came) for life, after in zip(lives, [*lives[1:], notes[-1]])]
-    making, makers = [span for life, span in zip(lives, spans) if b" format" in life.data], list(spans_of_makers(notes))
+    making = [span for life, span in zip(lives, spans) if b" format" in life.data or life.data.startswith(BEGINS)]
+    makers = list(spans_of_makers(notes))
     writes = [entry.came for entry in log if isinstance(entry, Write) and first < entry.came < last]
     draws = [lambda: chance.randint(*chance.choice(spans)), lambda: chance.randint(*chance.choice(making)),
              lambda: chance.choice(writes), lambda: chance.choice(notes).came + chance.choice([0, 0, 1, 2, 5])]

@@ -53,9 +53,11 @@ class File:
     pending: Ranges = field(default_factory=Ranges)
 
     def write(self, offset, data):
+        """What lies between the end and a write behind it comes to the file with that write, as zeros."""
+        begin = min(offset, len(self.content))
         self.extend(offset)
         self.content[offset:offset + len(data)] = data
-        self.pending.of.append((offset, offset + len(data)))
+        self.pending.of.append((begin, offset + len(data)))
 
     def take_over(self, name, offset, data):
         """A part of what a killed program has left: of its last write perhaps a part, which is pending all the same."""
@@ -115,6 +117,9 @@ class Run:
     def right(self, held, _confirmed):
         """How many bytes of an output are right, of which so many are confirmed."""
         return first_difference(held, self.wanted)
+
+    def look_beside(self, folder, name):
+        """Looks at what a drive keeps beside disk and output: nothing."""
 
 
 def numbers(seed, count):
@@ -196,3 +201,4 @@ def check_run(folder, name, run):
         raise Finding(f"{disk.name} has {confirmed} bytes of output as confirmed, of which {right} are kept and {run.printed} printed")
     if right < run.kept:
         raise Finding(f"{output.name} has {right} right bytes, though a drive had ended with {run.kept}")
+    run.look_beside(folder, name)

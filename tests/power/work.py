@@ -26,6 +26,7 @@ OTHERS, LONGEST_REST = 2, 0.004  # other programs on the file system, and the se
 CALLS = 0, 7, 40, 150, 600  # behind so many writes and syncs a life is killed, if it isn't 0
 RESTS = "0", "0", "500"  # microseconds behind each write of a life
 PATIENCE = 600  # seconds for a command, on a machine however busy
+BEGUN = "begun"  # what the names of disks begin with whose guests end behind some events
 PART = 1 << 19  # bytes of a file in one note: the logged disk takes twice as many in one request
 
 
@@ -75,6 +76,7 @@ class Place:
     events: tuple = 10, 40, 100, 300, 10_000
     calls: tuple = CALLS
     turns_behind: tuple = 1_000, 5_000, 65_535  # of drives behind a cut
+    rounds_behind: tuple = 3, 16  # of these, from a commit to the next one
     exit: int = 0  # by which the guest ends
 
     def pages_of(self, _name):
@@ -101,6 +103,14 @@ class Place:
     def drive_words(self, name, *more):
         return self.words("drive", name, "--output", self.folder / f"{name}.out", *more)
 
+    def rhythm(self, _name, turn, rounds):
+        """The words by which a drive goes for which such a turn and so many rounds were drawn."""
+        return "--turn", str(turn), "--other-schedule", "--rounds-per-commit", str(rounds)
+
+    def files(self, name):
+        """The names of the files that a drive writes."""
+        return [f"{name}.disk", f"{name}.out"]
+
 
 class Logged:
     """Lives of ckrt whose calls and prints are logged."""
@@ -123,7 +133,7 @@ class Logged:
         environment = {**self.environment, "POWER_RESTS": self.chance.choice(RESTS), "POWER_NOTED": str(calls)}
         done = subprocess.run(words, input=lines, stdout=self.prints, stderr=self.prints, env=environment, timeout=PATIENCE, check=False)
         if done.returncode < 0:
-            for file in (f"{name}.disk", f"{name}.out"):
+            for file in self.place.files(name):
                 self.note_found(file)
         return done.returncode
 
@@ -141,8 +151,8 @@ class Logged:
 
     def drive(self, name):
         """A drive with a rhythm drawn by lot, which ends by itself or is killed."""
-        turn, rounds, events = (str(self.chance.choice(of)) for of in (self.place.turns, [1, 2, 8], self.place.events))
-        words = self.place.drive_words(name, "--turn", turn, "--other-schedule", "--rounds-per-commit", rounds, "--events", events)
+        turn, rounds, events = (self.chance.choice(of) for of in (self.place.turns, [1, 2, 8], self.place.events))
+        words = self.place.drive_words(name, *self.place.rhythm(name, turn, rounds), "--events", str(events))
         status = self.live(name, words, calls=self.chance.choice(self.place.calls))
         if self.place.is_end(status) or status == ENOUGH and (self.place.folder / f"{name}.out").exists():
             self.note(f"kept {name} {(self.place.folder / f'{name}.out').stat().st_size}")
@@ -241,8 +251,7 @@ def format_again(place, name):
 
 def drive_again(place, name, chance):
     """Drives a disk behind a cut, to the end of its guest."""
-    rhythm = "--turn", str(chance.choice(place.turns_behind)), "--other-schedule", "--rounds-per-commit", str(chance.choice([3, 16]))
-    words = place.drive_words(name, *rhythm)
+    words = place.drive_words(name, *place.rhythm(name, chance.choice(place.turns_behind), chance.choice(place.rounds_behind)))
     done = said(words)
     if not place.is_end(done.returncode) or not done.stderr.startswith(b"ended: exit %d\n" % place.exit):
         raise Finding(shown(words, done))
@@ -258,7 +267,12 @@ def go_on(place, name, run, chance):
         # who read the lines has kept the bytes, and hands them to the drive, which goes on behind them
         output.write_bytes(wanted[:max(run.printed, feed_behind(place, name, wanted))])
     drive_again(place, name, chance)
-    held = output.read_bytes()
+    expect_output(output, name)
+
+
+def expect_output(output, name):
+    """The output of a disk's guest that has ended."""
+    held, wanted = output.read_bytes(), output_of(seed_of(name), COUNT)
     if held != wanted:
         at = first_difference(held, wanted)
         raise Finding(f"{output.name} has {len(held)} bytes at its end, and another byte at {at}")

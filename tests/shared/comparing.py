@@ -5,6 +5,7 @@ import tempfile
 from pathlib import Path
 
 SHOWN, ENDS = 300, 140  # characters of a value that are shown, and of each of its ends where it is longer
+BEFORE, AROUND = 30, 120  # bytes that are shown before the first one that differs, and of all
 
 
 class Failure(Exception):
@@ -33,6 +34,12 @@ class Faults:
         """Two values have to be the same."""
         if got != want:
             self.add(f"{what}: wanted {want!r}, and found {got!r}")
+
+    def expect_alike(self, what, got, want):
+        """Two long texts, or lists of lines: the place where they differ is told, and what stands there."""
+        if got != want:
+            at = max(0, first_difference(got, want) - BEFORE)
+            self.expect(f"{what}, from byte {at} on", got[at:at + AROUND], want[at:at + AROUND])
 
     def add(self, text):
         self.found.append(f"{self.test}: {text}")

@@ -21,17 +21,34 @@ def events(disk):
     return re.findall(r"^    \d+ (.*)$", text.getvalue(), re.MULTILINE)
 
 
+def disk_ends(disk):
+    """How many events the bytes of a disk recover to up to each batch of the journal of the area in use: behind the area, and behind each one.
+
+    It raises read_disk.Fault where they recover to nothing.
+    """
+    text = io.StringIO()
+    with contextlib.redirect_stdout(text):
+        count = recovered_by(disk)[0]
+    starts = [int(event) - 1 for event in re.findall(r"^  batch at .*\n    (\d+) ", text.getvalue(), re.MULTILINE)]
+    return [*starts, count]
+
+
 def recovered(disk):
     """How many events the bytes of a disk recover to, and the offset behind the last byte of output that they take for confirmed.
 
     It raises read_disk.Fault where they recover to nothing.
     """
     with contextlib.redirect_stdout(io.StringIO()):
-        config = read_disk.read_superblock(disk)
-        headers = [read_disk.read_header(disk, config.area_at(index)) for index in range(2)]
-        used = read_disk.area_in_use(headers)
-        headers[used].check()
-        return read_disk.print_journal(disk, config, used, headers[used].version, headers[used].events), headers[used].output_offset
+        return recovered_by(disk)
+
+
+def recovered_by(disk):
+    """The same, while the journal is printed."""
+    config = read_disk.read_superblock(disk)
+    headers = [read_disk.read_header(disk, config.area_at(index)) for index in range(2)]
+    used = read_disk.area_in_use(headers)
+    headers[used].check()
+    return read_disk.print_journal(disk, config, used, headers[used].version, headers[used].events), headers[used].output_offset
 
 
 def history(data):

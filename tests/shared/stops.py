@@ -5,7 +5,7 @@ import tempfile
 from typing import NamedTuple
 
 WRITE, SYNC = "pwrite64", "fdatasync"
-CALL = re.compile(r'^(\w+)\(\d+<([^>]*)>(?:, "[^"]*"(?:\.\.\.)?, (\d+), (\d+))?\) = ')
+CALL = re.compile(r'^(\w+)\(\d+<([^>]*)>(?:, "[^"]*"(?:\.\.\.)?, (\d+), (\d+))?\) += ')  # strace fills a short line with spaces
 
 
 class Call(NamedTuple):
