@@ -44,7 +44,7 @@ def is_history(data):
 
 def is_free(data):
     """Whether a history is begun in a file of these bytes (docs/HISTORIES.md, How it is written)."""
-    is_begun = len(data) >= 20 and data[0] != disks.OPEN and data[NAME] == MAGIC and data[VERSION] == b"\1\0\0\0"
+    is_begun = len(data) >= FREE and data[0] != disks.OPEN and data[NAME] == MAGIC and data[VERSION] == b"\1\0\0\0"
     return (len(data) <= FREE and not any(data)) or is_begun
 
 

@@ -1,5 +1,6 @@
 """Cases of `ckrt history`: a disk that is driven and run by lines in pieces, and a file beside it that is brought up behind most of them, at times
-from a copy of the disk that is older or went another way. Then `ckrt calls --history`, and changes of the file's bytes."""
+from a copy of the disk that is older or went another way. Then `ckrt calls --history`, parts of the history at drawn places, with their listings, and
+changes of the file's bytes."""
 import subprocess
 from dataclasses import dataclass, field, replace
 from random import Random
@@ -12,7 +13,8 @@ from cases.histories import is_turned, with_saves
 from cases.mixed import DriveStep, Lines, MixedCase, Mixing
 from cases.readers import READERS
 from cases.streams import joined
-from model.beside import FIELDS, FRONT, LEAST, MARK, KeptHistory, Unkept, brought_up, read_front, read_history, recorded_by
+from model.beside import (FIELDS, FRONT, LEAST, MARK, Joined, KeptHistory, Unkept, brought_up, has_form_of_part, is_free, listing_of_kept, part_of, read_front,
+                          read_history, recorded_by)
 from model.call_lines import kind_of_line
 from model.events import Eof, Input, Place, Run, RunLong, Tick
 from model.layout import CLOSED, OPEN, PAGES_AT, Geometry, format_disk
@@ -23,8 +25,9 @@ from model.switches import SWITCHES
 
 TIME_LIMIT = 60
 CHANGES = 6
+PARTS = 2  # that are made of one, and lead to others
 FREE = [bytes(71), bytes(LEAST), bytes(8) + MARK + bytes(52), b"\0" * 8 + MARK + b"some other sizes" * 4, b"\x01" * 8 + MARK + b"\xa5" * 5_000, bytes(8) + MARK + bytes(400_000)]
-NOT_FREE = [bytes(LEAST + 1), b"some words\n", b"\xa5" + bytes(LEAST - 1), bytes(8) + MARK[:-4] + b"\2\0\0\0" + bytes(60), bytes(8) + MARK[:-5], bytes(12) + b"\1"]
+NOT_FREE = [bytes(LEAST + 1), b"some words\n", b"\xa5" + bytes(LEAST - 1), bytes(8) + MARK[:-4] + b"\2\0\0\0" + bytes(60), bytes(8) + MARK[:-5], bytes(8) + MARK + bytes(51), bytes(12) + b"\1"]
 APART = [b"tick 9\ncommit\n", b"in 5a\ncommit\ncheckpoint\n", b"auto 0 7\ntick 1\ncommit\ncheckpoint\ntick 2\ncheckpoint\ncheckpoint\n"]
 OWN, NONE, OLDER, APART_FROM, OTHER = "own", "none", "older", "apart", "other"
 
@@ -123,7 +126,7 @@ class Beside:
     """
 
     def __init__(self, ckrt, case, folder, tally):
-        self.ckrt, self.tally, self.chance = ckrt, tally, Random(case.seed)
+        self.ckrt, self.tally, self.chance, self.chance_of_parts = ckrt, tally, Random(case.seed), Random(case.seed + 1)
         self.case, self.path, self.other = case, folder.resolve() / "history", folder.resolve() / "other.disk"
         self.disks, self.kept, self.length = [], None, 0
         self.remove()
@@ -211,14 +214,82 @@ class Beside:
             return None
         before = self.path.read_bytes()
         difference = self.difference_of_calls(self.kept, self.path, [(None, None), *(self.drawn_stretch() for _ in range(count - 1))])
-        return difference or (None if self.path.read_bytes() == before else "calls changed the history's bytes")
+        for _ in range(PARTS):
+            difference = difference or self.difference_of_part(self.kept, self.path)
+        return difference or (None if self.path.read_bytes() == before else "a look, or a part, changed the history's bytes")
 
     def drawn_stretch(self):
-        """Mostly one that it has."""
-        first, last = self.kept.first, self.kept.last
-        ends = [self.chance.randint(first, last) for _ in range(2)]
-        odd = [(max(first - 1, 0), None), (None, last + 1), (last, first), (last + 1, None), (2 ** 64 - 1, None)]
-        return self.chance.choice([tuple(sorted(ends)), (ends[0], None), (None, ends[1]), self.chance.choice(odd)])
+        return stretch_of(self.kept, self.chance)
+
+    def difference_of_part(self, kept, path):
+        """Of a history that has so much, or the name of what its bytes are refused by. A part is begun where nothing is, or something else."""
+        chance, part = self.chance_of_parts, path.with_name(f"{path.name}.part")
+        stretch = stretch_of(kept if isinstance(kept, Joined) else self.kept, chance)
+        there = chance.choice([None, None, None, b"", chance.choice(FREE), chance.choice(NOT_FREE)])
+        part.unlink(missing_ok=True)
+        if there is not None:
+            part.write_bytes(there)
+        wanted, faults = expected_part(kept, there or b"", stretch)
+        shown = told_by(self.ckrt, "history", path, "--part", part, *words_of(stretch))
+        self.tally["part of a history", shown.fault[6:] or "begun"] += 1
+        if not faults:
+            difference = self.difference_of_made(wanted, part, shown)
+        else:
+            is_left = part.exists() and part.read_bytes() == there or not part.exists() and there is None or is_still_free(there, part)
+            difference = None if shown in map(refused, faults) and is_left else f"model {faults}, program {shown}; left as it was: {is_left}"
+        return difference and f"part of a history (from, to {stretch}): {difference}"
+
+    def difference_of_made(self, wanted, part, shown):
+        """Its bytes, read by the model; what is told of it; and what it leads to: another part, or the history of a disk."""
+        data, chance = part.read_bytes(), self.chance_of_parts
+        try:
+            found, length = read_history(data)
+        except Unrecovered as fault:
+            return f"{fault} of the program's bytes, {shown}"
+        if not found.is_same(wanted) or not has_form_of_part(data):
+            return f"model {wanted}, program's bytes {found}, form {has_form_of_part(data)}"
+        lines, told = lines_of_span(wanted, length), told_by(self.ckrt, "history", part)
+        if (shown, told) != (printed("begun", *lines), printed(*lines)):
+            return f"model {lines}, program {shown}, {told}"
+        difference = self.difference_of_calls(wanted, part, [(None, None), stretch_of(wanted, chance)]) or self.difference_of_listings(wanted, part)
+        if difference is None and part.read_bytes() != data:
+            return "a look changed the part's bytes"
+        leads_to = chance.choices([self.difference_of_part, self.difference_of_going_on, lambda *_: None], [2, 3, 5])[0]
+        return difference or leads_to(wanted, part)
+
+    def difference_of_listings(self, kept, path):
+        """Where it begins, behind the last event, at a drawn place, and outside."""
+        if KeptHistory(kept).refused is not None:
+            return None  # which fault comes, and where, is seen by the calls
+        chance = self.chance_of_parts
+        for at in (None, kept.first, chance.randint(kept.first, kept.last), chance.choice([kept.last + 1, max(kept.first - 1, 0)])):
+            is_with_code = chance.random() < 0.3
+            try:
+                expected = printed(*listing_of_kept(kept, at, is_with_code))
+            except OutOfRange as fault:
+                expected = refused(fault)
+            shown = told_by(self.ckrt, "inspect", "--history", path, *([] if at is None else ["--at", str(at)]), *["--code"] * is_with_code)
+            self.tally["listing of a part", expected.fault[6:] or "shown"] += 1
+            if shown != expected:
+                return f"listing at {at}: model {str(expected)[:300]}, program {str(shown)[:300]}"
+        return None
+
+    def difference_of_going_on(self, kept, part):
+        """A part is brought up to the disk as any history is."""
+        if not self.disks:
+            return None
+        before, disk = part.read_bytes(), self.disks[-1]
+        self.other.write_bytes(disk)
+        shown = told_by(self.ckrt, "history", part, "--disk", self.other)
+        try:
+            wanted, head = brought_up(kept, before, recorded_by(bytearray(disk)))
+        except Unkept as fault:
+            self.tally["part and its disk", str(fault)] += 1
+            return None if (shown, part.read_bytes()) == (refused(fault), before) else f"brought up: model {fault}, program {shown}"
+        self.tally["part and its disk", head.split()[0]] += 1
+        found, length = read_history(part.read_bytes())
+        is_alike = found.is_same(wanted) and shown == printed(head, *lines_of_span(wanted, length))
+        return None if is_alike else f"brought up: model {head}, {wanted}, program {shown}, {found}"
 
     def difference_of_calls(self, kept, path, stretches):
         history = KeptHistory(kept)
@@ -257,6 +328,9 @@ class Beside:
         shown = told_by(self.ckrt, "history", changed)
         if shown != expected:
             return f"a changed history: model {expected}, program {shown}"
+        difference = self.difference_of_part(expected.fault[6:] if kept is None else kept, changed) if self.chance_of_parts.random() < 0.5 else None
+        if difference:
+            return f"a changed history: {difference}"
         stretch = self.chance.choice([(None, None), (None, None), self.drawn_stretch()])
         if kept is not None:
             return self.difference_of_calls(kept, changed, [stretch])
@@ -264,6 +338,37 @@ class Beside:
         if (shown, changed.read_bytes() == data) != (expected, True):
             return f"calls of a changed history: model {expected}, program {shown}"
         return None
+
+
+def stretch_of(kept, chance):
+    """Mostly one that the history has."""
+    first, last = kept.first, kept.last
+    ends = [chance.randint(first, last) for _ in range(2)]
+    odd = [(max(first - 1, 0), None), (None, last + 1), (last, first), (last + 1, None), (2 ** 64 - 1, None)]
+    return chance.choice([tuple(sorted(ends)), (ends[0], None), (None, ends[1]), chance.choice(odd)])
+
+
+def expected_part(kept, there, stretch):
+    """What a part has, or None and the faults of which one is told: where several apply their page leaves it open. `kept` is what the history has, or what
+    its bytes are refused by, and `there` are the bytes of the part's file."""
+    first, last = stretch
+    if first is None or is_turned(first, last):
+        return None, ["Range"]
+    faults, wanted = [] if is_free(there) else ["NotAHistory"], None
+    if not isinstance(kept, Joined):
+        return None, [*faults, kept]
+    try:
+        wanted = part_of(kept, first, last)
+    except Unrecovered as fault:
+        faults.append(str(fault))
+    except OutOfRange as fault:
+        faults += [str(fault), *["Damaged"] * (KeptHistory(kept).refused is not None)]
+    return wanted, faults
+
+
+def is_still_free(there, part):
+    """Of a file that was missing, or had few zeros: whether it is one of these, or has as many zeros as a free one gets first."""
+    return is_free(there or b"") and len(there or b"") < LEAST and contents(part) in (b"", there, bytes(LEAST))
 
 
 DAMAGED, OUTSIDE = refused("Damaged"), refused("Range")
@@ -276,9 +381,13 @@ def calls_of_model(history, stretch):
         return refused(fault)
 
 
-def calls_of_program(ckrt, path, stretch):
+def words_of(stretch):
     ends = [(name, str(end)) for name, end in zip(("--from", "--to"), stretch) if end is not None]
-    return told_by(ckrt, "calls", "--history", path, *[word for pair in ends for word in pair])
+    return [word for pair in ends for word in pair]
+
+
+def calls_of_program(ckrt, path, stretch):
+    return told_by(ckrt, "calls", "--history", path, *words_of(stretch))
 
 
 def with_what_is_open(expected, shown, history, first):

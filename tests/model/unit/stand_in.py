@@ -1,6 +1,6 @@
 """A `ckrt` made of the model over a file, to try the driver with; and wrong ones, which the driver has to find.
 
-Words: a name in WRONG, WRONG_DRIVES, WRONG_CALLS or WRONG_HISTORIES, or `right`, then those of `ckrt run`, `ckrt inspect`, `ckrt calls`,
+Words: a name in WRONG, WRONG_DRIVES, WRONG_CALLS, WRONG_HISTORIES or WRONG_PARTS, or `right`, then those of `ckrt run`, `ckrt inspect`, `ckrt calls`,
 `ckrt calls --history`, `ckrt history`, `ckrt drive`, or `ckrt format` on a file of the disk's size.
 """
 import os
@@ -21,7 +21,8 @@ from model.recovery import Unrecovered, pick_area, read_superblock
 from model.session import Session
 from model.switches import SWITCHES
 from unit.stand_in_drives import WRONG_DRIVES, drive
-from unit.stand_in_histories import WRONG_CALLS_OF_HISTORIES, WRONG_HISTORIES, calls_of_history, history
+from unit.stand_in_histories import (WRONG_CALLS_OF_HISTORIES, WRONG_HISTORIES, WRONG_PARTS, calls_of_history, history, listing_of_history,
+                                     part_of_history)
 
 
 class FileDisk:
@@ -208,6 +209,10 @@ def main(**switches):
             run(path, **wrong)
         elif word == "drive":
             sys.exit(drive(path, *options, **WRONG_DRIVES.get(which, {})))
+        elif word == "history" and {"--part", "--from"} & {*options}:
+            Printer().show(part_of_history(path, *options, **WRONG_PARTS.get(which, {})))
+        elif (word, path) == ("inspect", "--history"):
+            Printer().show(listing_of_history(*options))
         elif word == "history":
             Printer().show(history(path, *options, **WRONG_HISTORIES.get(which, {})))
         elif (word, path) == ("calls", "--history"):

@@ -1,13 +1,17 @@
-"""The word `history` of a `ckrt` made of the model, its `calls --history`, and what keeps a history while it drives; and wrong parts of these, which the
-driver has to find."""
+"""The word `history` of a `ckrt` made of the model, with `--part`, its `calls --history` and `inspect --history`, and what keeps a history while it drives;
+and wrong ones of these, which the driver has to find."""
+from copy import deepcopy
+from dataclasses import replace
 from pathlib import Path
 
 from cases.damage import batch
 from cases.histories import is_turned
-from model.beside import MARK, KeptHistory, Unkept, begun_from, is_free, lacking, read_front, read_history, recorded_by
+from model.beside import FIELDS, MARK, KeptHistory, Unkept, begun_from, is_free, lacking, listing_of_kept, part_of, read_front, read_history, recorded_by
+from model.devices import MemoryDisk
 from model.feeding import Undriven
-from model.layout import BATCH_LIMIT, CLOSED, OPEN, SUPERBLOCK_AT
+from model.layout import BATCH_LIMIT, CLOSED, OPEN, SUPERBLOCK, SUPERBLOCK_AT, Geometry, Header, write_contents, write_gate
 from model.listing import OutOfRange
+from model.tables import encode_tables
 
 
 def batches_of(events):
@@ -46,6 +50,65 @@ def history(path, option=None, disk=None, lacks=lacking, free=is_free, span=lamb
         lines = [line]
     kept, length = read_history(file.read_bytes())
     return [*lines, "events {} to {}".format(*span(kept)), f"bytes {length}"]
+
+
+def bytes_of_part(part):
+    """With its state in area 0, and its events in the long journal."""
+    contents = bytearray([OPEN]) + bytes(SUPERBLOCK_AT - 1) + MARK + part.fields
+    geometry, tables = Geometry(*SUPERBLOCK.unpack_from(contents, SUPERBLOCK_AT)[2:]), encode_tables(part.machine, b"")
+    contents += bytes(geometry.size - len(contents))
+    disk, memory = MemoryDisk(contents), deepcopy(part.machine.memory)
+    memory.dirty[0] = set(range(1, geometry.pages))
+    write_contents(disk, geometry, 0, Header(1, part.first, 0, len(tables)), tables, memory)
+    write_gate(disk, geometry.area_at(0), OPEN)
+    return bytes(contents) + b"".join(batches_of(part.events)) + b"\0"
+
+
+def part_of_history(path, *options, cut=part_of, free=is_free, form=bytes_of_part):
+    """The lines. `cut` says what a part has, `free` in which files it is begun, and `form` its bytes."""
+    words = dict(zip(options[::2], options[1::2]))
+    first, last = (int(words[name]) if name in words else None for name in ("--from", "--to"))
+    if first is None or is_turned(first, last):
+        raise OutOfRange
+    kept, file = read_history(Path(path).read_bytes())[0], Path(words["--part"])
+    if not free(file.read_bytes() if file.exists() else b""):
+        raise Unkept("NotAHistory")
+    file.write_bytes(form(cut(kept, first, last)))
+    return ["begun", *history(file)]
+
+
+def listing_of_history(path, *options):
+    at = int(options[options.index("--at") + 1]) if "--at" in options else None
+    return listing_of_kept(read_history(Path(path).read_bytes())[0], at, "--code" in options)
+
+
+def with_another_end(kept, first, last=None):
+    return part_of(kept, first, kept.last if last is None else min(last + 1, kept.last))
+
+
+def without_its_first(kept, first, last=None):
+    part = part_of(kept, first, last)
+    return replace(part, events=part.events[1:])
+
+
+def in_the_first_state(kept, first, last=None):
+    return replace(part_of(kept, first, last), machine=kept.machine)
+
+
+def up_to_the_end(kept, first, last=None):
+    """Whatever end it is asked for."""
+    return part_of(kept, first) if last is None or last <= kept.last else part_of(kept, first, last)
+
+
+def counted_from_0(kept, first, last=None):
+    return replace(part_of(kept, first, last), first=0)
+
+
+def in_both_areas(part):
+    """With an area 1 that is open, too."""
+    contents, geometry = bytearray(bytes_of_part(part)), read_front(bytes_of_part(part))
+    contents[geometry.area_at(1)] = OPEN
+    return bytes(contents)
 
 
 def calls_of_history(path, *options, read=read_history):
@@ -168,4 +231,7 @@ WRONG_HISTORIES = {
     "anywhere": {"free": lambda contents: True}, "in zeros alone": {"free": lambda contents: not any(contents)}, "from 0 on": {"span": lambda kept: (0, kept.last)},
     "begun anew": {"is_kept": False},
 }
+WRONG_PARTS = {"another end": {"cut": with_another_end}, "first left out": {"cut": without_its_first}, "first state": {"cut": in_the_first_state},
+               "to the end": {"cut": up_to_the_end}, "counted from 0": {"cut": counted_from_0}, "two areas": {"form": in_both_areas},
+               "part anywhere": {"free": lambda contents: True}}
 WRONG_CALLS_OF_HISTORIES = {"short": {"read": as_on_a_disk}}

@@ -3,18 +3,18 @@ import unittest
 from collections import Counter
 from random import Random
 
-from cases.beside import FREE, NOT_FREE, Changed, with_what_is_open
+from cases.beside import FREE, NOT_FREE, Changed, expected_part, with_what_is_open
 from cases.damage import batch
 from cases.glances import Glance
 from cases.kinds import case_of
-from model.beside import FIELDS, KeptHistory, Unkept, begun_from, is_free, lacking, read_history, recorded_by
+from model.beside import FIELDS, Joined, KeptHistory, Unkept, begun_from, has_form_of_part, is_free, lacking, listing_of_kept, part_of, read_history, recorded_by
 from model.events import Input, Place, Run, RunLong, Tick
 from model.layout import Geometry, format_disk
 from model.lines import serve_disk
-from model.listing import OutOfRange
+from model.listing import OutOfRange, listing
 from model.recovery import Unrecovered
 from model.switches import switched
-from unit.stand_in_histories import brought_up
+from unit.stand_in_histories import brought_up, bytes_of_part
 from unit.test_call_lines import LED, LED_LINES
 from unit.test_rows import GETS, PUTS_A, SMALL
 
@@ -242,6 +242,79 @@ class BringingUp(Beside):
         self.assertEqual((line, data[:SIZE] == history_of(self.disk)[:SIZE]), ("appended 1200", True))
         self.assertEqual((data[SIZE:SIZE + 3], data[SIZE + 4098:SIZE + 4101]), (b"\xa5\xff\x0f", b"\xa5\x71\x07"))
         self.spans(data, 0, 1203, SIZE + 2 * 3 + 6000 + 1)
+
+
+class Parts(Beside):
+    """Of a history with the events of LED, then a tick and an input."""
+
+    def setUp(self):
+        super().setUp()
+        self.kept = read_history(self.whole)[0]
+
+    def test_states(self):
+        """The state is the one that a disk with just these events recovers to, and the events are those behind it."""
+        for first, lines in ((0, []), (1, LED[:1]), (2, LED[:2])):
+            part = part_of(self.kept, first)
+            self.assertEqual((part.first, part.last, part.events), (first, 5, self.kept.events[first:]))
+            self.assertTrue(part.is_same(Joined(self.kept.fields, first, recorded_by(bytearray(disk_of(*lines, "commit", "checkpoint", "checkpoint"))).machine, part.events)))
+        self.assertEqual(self.kept.first, 0)
+        self.assertEqual(KeptHistory(part_of(self.kept, 3)).lines(), ["3+0 tick 5", "4+0 input 7a7a"])
+
+    def test_ends(self):
+        part = part_of(self.kept, 3, 4)
+        self.assertEqual((part.first, part.last, part.events), (3, 4, [Tick(5)]))
+        self.assertEqual(part_of(self.kept, 5).events, [])
+        self.assertTrue(part_of(part_of(self.kept, 1, 4), 2, 3).is_same(part_of(self.kept, 2, 3)))
+        for stretch in ((6,), (0, 6), (4, 3), (2 ** 64 - 1, None)):
+            with self.assertRaises(OutOfRange):
+                part_of(self.kept, *stretch)
+        for stretch in ((2,), (3, 5), (5, 5)):
+            with self.assertRaises(OutOfRange):
+                part_of(part_of(self.kept, 3, 4), *stretch)
+
+    def test_refused(self):
+        """Events before it are made, and its own aren't. No part begins behind one that isn't accepted."""
+        kept = read_history(history_of(self.disk, MORE, Place(7, 1).encoding() + Tick(1).encoding()))[0]
+        self.assertEqual((part_of(kept, 5).events, part_of(kept, 0, 7).last), ([Place(7, 1), Tick(1)], 7))
+        for first in (6, 7):
+            with self.assertRaisesRegex(Unrecovered, "^Damaged$"):
+                part_of(kept, first)
+        self.assertEqual(expected_part(kept, b"", (8, None)), (None, ["Range", "Damaged"]))
+
+    def test_faults(self):
+        """Words that don't go together come first; of several others each may be told."""
+        self.assertEqual(expected_part(self.kept, b"words", (None, 3)), (None, ["Range"]))
+        self.assertEqual(expected_part("Damaged", b"words", (3, 2)), (None, ["Range"]))
+        self.assertEqual(expected_part("Damaged", b"words", (2, 3)), (None, ["NotAHistory", "Damaged"]))
+        self.assertEqual(expected_part(self.kept, b"words", (2, 9)), (None, ["NotAHistory", "Range"]))
+        self.assertEqual(expected_part(self.kept, b"words", (2, 3))[1], ["NotAHistory"])
+        self.assertEqual(expected_part(self.kept, bytes(72), (2, 3))[1], [])
+
+    def test_bytes(self):
+        """Those of the stand-in are read as the part."""
+        for stretch in ((0, 5), (2, 4), (5, 5)):
+            data = bytes_of_part(part_of(self.kept, *stretch))
+            kept = self.spans(data, *stretch, SIZE + 1 + (3 + sum(len(event.encoding()) for event in self.kept.events[slice(*stretch)])) * (stretch != (5, 5)))
+            self.assertTrue(kept.is_same(part_of(self.kept, *stretch)) and has_form_of_part(data))
+            for at, byte in ((SMALL.area_at(1), 0xA5), (SMALL.area_at(0), 0), (SMALL.area_at(0) + 8, 2), (SMALL.journal_at(0), 0xA5)):
+                self.assertFalse(has_form_of_part(self.put(at, [byte], data)))
+
+    def test_listings(self):
+        """That of the disk with as many events, without what it notes."""
+        part = part_of(self.kept, 2)
+        for kept, at, lines in ((self.kept, 2, LED[:2]), (self.kept, None, [*LED, "tick 5", "in 7a7a"]), (part, 2, LED[:2]), (part, None, [*LED, "tick 5", "in 7a7a"])):
+            for is_with_code in (False, True):
+                wanted = listing(bytearray(disk_of(*lines, "commit")), None, is_with_code).splitlines()
+                self.assertEqual(listing_of_kept(kept, at, is_with_code), [line for line in wanted if not line.startswith(("program", "schedule"))])
+        for at in (1, 6):
+            with self.assertRaises(OutOfRange):
+                listing_of_kept(part, at)
+
+    def test_free(self):
+        """A history that wasn't begun whole has all of the first 72 bytes."""
+        for length in (20, 32, 71):
+            self.assertFalse(is_free(self.put(0, b"\0")[:length]))
+        self.assertTrue(is_free(self.put(0, b"\0")[:72]))
 
 
 class Cases(Beside):

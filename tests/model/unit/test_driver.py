@@ -32,6 +32,7 @@ DRIVES_FOUND_BY = [("reads anything", "inputs", 2), ("padding", "inputs", 2), ("
 SHORT_KEPT = [11, 26]
 KEPT_FOUND_BY = [("without the last", 38), ("the last again", 38), ("uncompared", 26), ("with a gap", 6), ("anywhere", 16), ("in zeros alone", 11),
                  ("from 0 on", 26), ("begun anew", 38), ("short", 11)]
+PARTS_FOUND_BY = [("another end", 38), ("to the end", 38), *[(which, 26) for which in ("first left out", "first state", "counted from 0", "two areas")], ("part anywhere", 38)]
 SHORT_DRIVEN = [4, 10]
 DRIVEN_FOUND_BY = [("unkeeping", 2), ("skipping", 2), ("doubling", 13), ("anew", 15), ("unread", 15), ("writing", 10), ("uncomparing", 15), ("begins anywhere", 10)]
 SCHEDULES_FOUND_BY = [("obliging", "schedules", 1), ("unnoted", "schedules", 1), ("before input", "inputs", 2), ("over the old", "schedules", 1),
@@ -117,7 +118,7 @@ class Driver(unittest.TestCase):
 
     def test_histories(self):
         with switched(keys=True, long_runs=True, programs=True, schedules=True):
-            self.find_wrong("beside", SHORT_KEPT, KEPT_FOUND_BY, tries=40)
+            self.find_wrong("beside", SHORT_KEPT, KEPT_FOUND_BY + PARTS_FOUND_BY, tries=40)
             self.find_wrong("kept", SHORT_DRIVEN, DRIVEN_FOUND_BY, tries=16)
 
     def test_keys_of_one_side(self):
