@@ -7,13 +7,14 @@ mod beside;
 mod giving;
 mod kept;
 mod rules;
+mod snapshots;
 mod threads;
 mod words;
 
 use asked::{form_of, names_asked};
 use beside::{Beside, Refusal, Trouble, copy_of};
 use ckrt_cli::run_words;
-use ckrt_cli_files::{OutputReason, ProgramWords, SystemSources, ToldWriter};
+use ckrt_cli_files::{OutputReason, ProgramWords, SnapshotPath, SystemSources, ToldWriter};
 use ckrt_cli_names::{Form, NamedWriter, Names};
 use ckrt_cli_reports::{SystemMeter, WrittenReport};
 use ckrt_cli_words::{Job, read_names, read_words};
@@ -22,6 +23,7 @@ use ckrt_look_recording::Rule;
 use giving::Giving;
 use kept::KeptWriter;
 use rules::rules_for;
+use snapshots::snapshots_for;
 use std::cell::Cell;
 use std::env;
 use std::io::{self, ErrorKind, Write};
@@ -36,12 +38,13 @@ use words::{
 /// How many bytes of reports are held, so that memory which is refused later takes none away. A job reports some lines.
 const REPORT_ROOM: usize = 65_536;
 
-/// What a job is done with: its words, those that its program gets, a place for why an output failed, where it is known the job, and the
-/// rules by which it finds callers.
+/// What a job is done with: its words, those that its program gets, the snapshots beside its history, a place for why an output failed, where
+/// it is known the job, and the rules by which it finds callers.
 #[derive(Clone, Copy)]
 struct Task<'a, 'j> {
     words: &'a [&'a str],
     program: Option<ProgramWords<'a>>,
+    snapshots: &'a [SnapshotPath],
     why: &'a Cell<OutputReason>,
     job: Option<&'j Job<'a>>,
     rules: &'j [Rule],
@@ -95,7 +98,9 @@ fn run<'a>(
     let named = NamedWriter::in_form(rt.alloc(), printed, form, told);
     let mut writer = KeptWriter::new(rt, task.why, again, named);
     let mut reporter = WrittenReport::new(room);
-    let sources = SystemSources::new(rt, task.why, Calls::new()).with_output(output_of(task.job));
+    let sources = SystemSources::new(rt, task.why, Calls::new())
+        .with_output(output_of(task.job))
+        .with_snapshots(task.snapshots);
     let status = run_words::<HostRuntime, Brand, _, _, _, _>(
         rt.alloc(),
         task.words,
@@ -217,11 +222,13 @@ fn run_given<'a>(
     words: &'a [&'a str],
     arguments: &'a [&'a str],
     variables: &'a [&'a str],
+    snapshots: &'a [SnapshotPath],
     why: &'a Cell<OutputReason>,
 ) -> u8 {
     let task = Task {
         words,
         program: program_words(arguments, variables),
+        snapshots,
         why,
         job: None,
         rules: &[],
@@ -241,8 +248,9 @@ fn run_arguments(rt: &HostRuntime) -> io::Result<u8> {
     let words = job_words(rt.alloc(), arguments.as_slice())?;
     let given = guest_arguments(rt.alloc(), arguments.as_slice())?;
     let variables = guest_variables(rt.alloc(), arguments.as_slice())?;
+    let snapshots = snapshots_for(rt, &words);
     let why = Cell::new(OutputReason::Other);
-    Ok(run_given(rt, &words, &given, &variables, &why))
+    Ok(run_given(rt, &words, &given, &variables, &snapshots, &why))
 }
 
 /// How the program is used; the answer is its status.
@@ -250,6 +258,7 @@ fn show_usage<'a>(rt: &'a HostRuntime, words: &'a [&'a str], why: &'a Cell<Outpu
     let task = Task {
         words,
         program: None,
+        snapshots: &[],
         why,
         job: None,
         rules: &[],

@@ -11,10 +11,9 @@ use Rattle.ckrt_inspect.specs.declared.fault.InspectFault.TheVariants as look
 use Rattle.ckrt_look_recording.specs.Reading.{HasParts, LeadsOlder, RecordsParts, newer_of, older_of, whole_by}
 use Rattle.ckrt_look_recording.specs.Recording.{HasRecording, Recorded, recorded_of}
 use Rattle.ckrt_look_recording.specs.declared.recording.Recording.{Recording}
-use Rattle.ckrt_history.specs.History.{Tells}
-use Rattle.ckrt_history.specs.Reads as history
 use Rattle.ckrt_history.specs.declared.fault.HistoryFault.{HistoryFault}
 use Rattle.ckrt_look_recording.specs.declared.parts.Parts.{Parts}
+use Rattle.ckrt_look_calls.specs.declared.stretch.Stretch.{Stretch}
 use Rattle.ckrt_gdb_stub.specs.Conversation.{BreaksOff, Serves}
 use Rattle.ckrt_gdb_stub.specs.Session.{BeginsAt, IsOutside}
 use Rattle.ckrt_gdb_playback.specs.Recorded.{IsSound, Run, run_of}
@@ -23,6 +22,8 @@ use Rattle.ckrt_gdb_stub.specs.declared.fault.DebugFault.TheVariants as debug
 use Rattle.ckrt_gdb_stub.specs.declared.stub.Stub.{Stub}
 use Rattle.ckrt_main.specs.declared.fault.ServeFault.TheVariants as serve
 use Rattle.ckrt_cli_words.specs.Jobs.{Debugging}
+use Rattle.ckrt_cli_disk.specs.Near.{ReadsNear, with_snapshot_closed}
+use Rattle.ckrt_cli_disk.specs.declared.near.NearRead.{NearRead}
 use Rattle.ckrt_cli_files.specs.Openings.{Openings, opened, with_closed, with_disk}
 use Rattle.ckrt_cli_files.specs.declared.file.JobFile.TheVariants as file
 use Rattle.ckrt_cli_reports.specs.Outside.{Lacks, Outside}
@@ -60,22 +61,27 @@ abbrev pub part_or_fault : Result Recording HistoryFault → Result Parts JobFau
 part_or_fault (Ok r) = Ok (record { newer = r; older = None })
 part_or_fault (Err f) = Err (job.History f)
 
--- A history that was opened was only read, and closed as it was then. What was read is what it has recorded, if it was honest to that end.
-pub record ReadsHistory {D : Type 0} (d : Ghosts D) (Opens : D → Type 0)
+-- the stretch of a history that a session goes over
+abbrev pub session_stretch : Option ℕ → Stretch
+session_stretch at = record { from = at; to = None; last = None }
+
+-- A history that was opened was only read, and closed as it was then, as was the snapshot of which it was read on, where one was opened. What
+-- was read is what it has recorded, from the snapshot on where that was taken, if it was honest to that end.
+pub record ReadsHistory {D : Type 0} (d : Ghosts D) (at : Option ℕ) (Opens : D → Type 0)
     (asked new : Openings D) (result : Result Parts JobFault) : Type 0 where
   pub start : D
   pub is_opened : Opens start
   pub end : D
-  pub answer : Result Recording HistoryFault
-  pub gives : result ≡ part_or_fault answer
-  pub read : IsOnlyRead d start end (history.is_device answer)
-  pub records : history.IsReadAs d start end recorded_of answer Tells
-  pub closes : new ≡ with_closed asked end
+  pub near : NearRead D
+  pub openings : Openings D
+  pub reads : ReadsNear d (session_stretch at) start end asked openings near
+  pub gives : result ≡ part_or_fault near.answer
+  pub closes : new ≡ with_closed (with_snapshot_closed openings near.file) end
 
 -- what was opened is a history, where the words say so, and else a disk
 abbrev pub ReadsAt : (is_history : Bool) → {D : Type 0} → Ghosts D → (at : Option ℕ) → (D → Type 0)
     → (asked new : Openings D) → Result Parts JobFault → Type 0
-ReadsAt true d at Opens asked new result = ReadsHistory d Opens asked new result
+ReadsAt true d at Opens asked new result = ReadsHistory d at Opens asked new result
 ReadsAt false d at Opens asked new result = ReadsOpened d at Opens asked new result
 
 -- what the disk or the history of this path has recorded was read, or that can't be opened

@@ -9,8 +9,6 @@ use Rattle.ckrt_inspect.specs.Inspect.{is_device}
 use Rattle.ckrt_inspect.specs.Listing.{listing_by}
 use Rattle.ckrt_inspect.specs.declared.fault.InspectFault.{InspectFault}
 use Rattle.ckrt_inspect.specs.declared.fault.InspectFault.TheVariants.{Range}
-use Rattle.ckrt_history.specs.History.{Tells}
-use Rattle.ckrt_history.specs.Reads as history
 use Rattle.ckrt_history.specs.declared.fault.HistoryFault.{HistoryFault}
 use Rattle.ckrt_look_recording.specs.Recording.{Recorded, recorded_of}
 use Rattle.ckrt_look_recording.specs.declared.recording.Recording.{Recording}
@@ -32,7 +30,9 @@ use Rattle.ckrt_look_timeline.specs.declared.words.Form.TheVariants as form
 use Rattle.ckrt_cli_words.specs.Jobs.{DiskStretch, Drawing, Inspection, Profiling, Shadowing}
 use Rattle.ckrt_cli_words.specs.declared.job.ProfileForm.{ProfileForm}
 use Rattle.ckrt_cli_words.specs.declared.job.ProfileForm.TheVariants as asked
-use Rattle.ckrt_cli_files.specs.Openings.{opened, with_closed, with_disk}
+use Rattle.ckrt_cli_disk.specs.Near.{ReadsNear, with_snapshot_closed}
+use Rattle.ckrt_cli_disk.specs.declared.near.NearRead.{NearRead}
+use Rattle.ckrt_cli_files.specs.Openings.{Openings, opened, with_closed, with_disk}
 use Rattle.ckrt_cli_reports.specs.Outside.{IsRefused, Outside, asked_for}
 use Rattle.ckrt_cli_reports.specs.Ranges.{ends_before, is_room}
 use Rattle.ckrt_cli_reports.specs.declared.fault.JobFault.{JobFault}
@@ -86,18 +86,19 @@ abbrev pub TellsRead : Account → Stretch → Result Recording HistoryFault
 TellsRead a s (Ok r) old new result = TellsRecorded a s (recorded_of r) old new result
 TellsRead a s (Err f) old new result = (result ≡ Err (job.History f)) × (new ≡ old)
 
--- A history that was opened was only read, and closed as it was then. What was read is what it has recorded, if it was honest to that end, and
--- that was told.
+-- A history that was opened was only read, and closed as it was then, as was the snapshot of which it was read on, where one was opened. What
+-- was read is what it has recorded, from the snapshot on where that was taken, if it was honest to that end; and that was told.
 pub record LooksInHistory {D : Type 0} (d : Ghosts D) (it : Sight D) (asked new : Outside D)
     (result : Result (Unit {0}) JobFault) : Type 0 where
   pub start : D
   pub is_opened : it.Opens start
   pub end : D
-  pub answer : Result Recording HistoryFault
-  pub read : IsOnlyRead d start end (history.is_device answer)
-  pub records : history.IsReadAs d start end recorded_of answer Tells
-  pub tells : TellsRead it.Tells (stretch_of it.stretch) answer asked.written new.written result
-  pub closes : new.openings ≡ with_closed asked.openings end
+  pub near : NearRead D
+  pub openings : Openings D
+  pub reads : ReadsNear d (stretch_of it.stretch) start end asked.openings openings near
+  pub tells : TellsRead it.Tells (stretch_of it.stretch) near.answer asked.written new.written
+      result
+  pub closes : new.openings ≡ with_closed (with_snapshot_closed openings near.file) end
   pub unread : new.unread ≡ asked.unread
 
 -- what was opened is a history, where the words say so, and else a disk

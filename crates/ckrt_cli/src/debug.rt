@@ -5,16 +5,17 @@ ghost use Rattle.ckrt_cli_reports.specs.Outside.{outside};
 ghost use Rattle.ckrt_disk.specs.Frame.{IsOnlyRead};
 ghost use Rattle.ckrt_stored.specs.Reads.{IsReadAs, is_device};
 ghost use Rattle.ckrt_look_recording.specs.Reading.{RecordsParts};
-ghost use Rattle.ckrt_cli.specs.Debugging.{DebugsParts, DebugsPath, IsRead, ReadsAt, ReadsHistory, ReadsOpened, ReadsPath, ServesStub, fault_of, first_in, line, run_in};
+ghost use Rattle.ckrt_cli.specs.Debugging.{DebugsParts, DebugsPath, IsRead, ReadsAt, ReadsHistory, ReadsOpened, ReadsPath, ServesStub, fault_of, first_in, line, run_in, session_stretch};
 
+use ckrt_cli_disk::{NearRead, close_near, read_near};
 use ckrt_cli_files::{JobFile, Sources};
 use ckrt_cli_reports::JobFault;
 use ckrt_cli_words::DebugJob;
 use ckrt_disk::Disk;
 use ckrt_gdb_playback::Recorded;
 use ckrt_gdb_stub::{DebugFault, Stub};
-use ckrt_history::read_history;
 use ckrt_inspect::InspectFault;
+use ckrt_look_calls::Stretch;
 use ckrt_look_recording::{Parts, read_parts, read_unreplayed};
 use ckrt_main::ServeFault;
 use ckrt_stored::RecoverFault;
@@ -56,18 +57,31 @@ fn read_opened<'a, I: Read, D: Disk, S: Sources<'a, I, D>>(
     }
 }
 
-/// Reads what a history that was opened has recorded, and closes it.
+/// The stretch of a history that a session goes over.
+fn session_stretch(at: Option<u64>) -> Stretch
+    ensures { result ≡ session_stretch at }
+{
+    Stretch {
+        from: at,
+        to: None,
+        last: None,
+    }
+}
+
+/// Reads what a history that was opened has recorded, from a snapshot on where one is taken, and closes both.
 fn read_opened_history<'a, I: Read, D: Disk, S: Sources<'a, I, D>>(
     alloc: Global,
     history: D,
+    at: Option<u64>,
     sources: &mut S,
 ) -> Result<Parts, JobFault>
-    ensures reads { ReadsHistory D.Disk (λ start. start ≡ history)
+    ensures reads { ReadsHistory D.Disk at (λ start. start ≡ history)
         (S.openings sources.old) (S.openings sources.new) result }
 {
     let mut history = history;
-    let answer = read_history(alloc, &mut history);
-    sources.close(history);
+    let stretch = session_stretch(at);
+    let NearRead { answer, file } = read_near::<I, D, S>(alloc, &mut history, &stretch, sources);
+    close_near(history, file, sources);
     match answer {
         Ok(newer) => Ok(Parts { newer, older: None }),
         Err(fault) => Err(JobFault::History(fault)),
@@ -85,7 +99,7 @@ fn read_at_opened<'a, I: Read, D: Disk, S: Sources<'a, I, D>>(
         (S.openings sources.old) (S.openings sources.new) result }
 {
     if job.history {
-        read_opened_history::<I, D, S>(alloc, opened, sources)
+        read_opened_history::<I, D, S>(alloc, opened, job.at, sources)
     } else {
         read_opened::<I, D, S>(alloc, opened, job.at, sources)
     }

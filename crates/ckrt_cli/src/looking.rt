@@ -6,11 +6,11 @@ ghost use Rattle.ckrt_cli_words.specs.Jobs.{disk_stretch_of};
 ghost use Rattle.ckrt_cli_reports.specs.Outside.{outside};
 ghost use Rattle.ckrt_cli.specs.Looking.{LooksAt, LooksInHistory, LooksOpened, LooksPath, LooksThere, answer_of, sight, stretch_of};
 
+use ckrt_cli_disk::{NearRead, close_near, read_near};
 use ckrt_cli_files::{JobFile, Sources};
 use ckrt_cli_reports::{JobFault, ends_before};
 use ckrt_cli_words::StretchJob;
 use ckrt_disk::Disk;
-use ckrt_history::read_history;
 use ckrt_inspect::InspectFault;
 use ckrt_look_calls::{Stretch, Telling, tell_recording, tell_stretch};
 use std::alloc::Global;
@@ -58,7 +58,7 @@ fn look_opened<'a, I: Read, D: Disk, S: Sources<'a, I, D>, T: Telling, W: Write>
     answer_of(answer)
 }
 
-/// Tells of a history that was opened, and closes it.
+/// Tells of a history that was opened, from a snapshot on where one is taken, and closes both.
 fn look_in_history<'a, I: Read, D: Disk, S: Sources<'a, I, D>, T: Telling, W: Write>(
     alloc: Global,
     history: D,
@@ -73,12 +73,11 @@ fn look_in_history<'a, I: Read, D: Disk, S: Sources<'a, I, D>, T: Telling, W: Wr
         (outside (S.openings sources.new) (W.contents writer.new) left) result }
 {
     let mut history = history;
-    let answer = read_history(alloc, &mut history);
-    sources.close(history);
+    let stretch = stretch(job);
+    let NearRead { answer, file } = read_near::<I, D, S>(alloc, &mut history, &stretch, sources);
+    close_near(history, file, sources);
     match answer {
-        Ok(recording) => {
-            answer_of(tell_recording(alloc, recording, stretch(job), telling, writer))
-        }
+        Ok(recording) => answer_of(tell_recording(alloc, recording, stretch, telling, writer)),
         Err(fault) => Err(JobFault::History(fault)),
     }
 }

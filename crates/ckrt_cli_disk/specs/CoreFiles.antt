@@ -8,8 +8,6 @@ use Rattle.ckrt_disk.specs.declared.disk.Disk.{Ghosts}
 use Rattle.ckrt_events.specs.declared.event.Event.{Event}
 use Rattle.ckrt_machine.specs.Events.{AllAccepted, Machine, fold}
 use Rattle.ckrt_machine.specs.Steps.{State}
-use Rattle.ckrt_history.specs.History.{Tells}
-use Rattle.ckrt_history.specs.Reads as history
 use Rattle.ckrt_history.specs.declared.fault.HistoryFault.{HistoryFault}
 use Rattle.ckrt_look_recording.specs.Recording.{Recorded, recorded_of}
 use Rattle.ckrt_look_recording.specs.declared.recording.Recording.{Recording}
@@ -19,6 +17,9 @@ use Rattle.ckrt_inspect.specs.Inspect.{AgreesAt, is_device}
 use Rattle.ckrt_inspect.specs.declared.fault.InspectFault.{InspectFault}
 use Rattle.ckrt_inspect.specs.declared.fault.InspectFault.TheVariants as inspect
 use Rattle.ckrt_cli_words.specs.Jobs.{CoreMaking}
+use Rattle.ckrt_look_calls.specs.declared.stretch.Stretch.{Stretch}
+use Rattle.ckrt_cli_disk.specs.Near.{ReadsNear, with_snapshot_closed}
+use Rattle.ckrt_cli_disk.specs.declared.near.NearRead.{NearRead}
 use Rattle.ckrt_cli_files.specs.Openings.{Openings, opened, with_abandoned, with_closed, with_closed_output, with_disk, with_making, with_named}
 use Rattle.ckrt_cli_reports.specs.Outside.{Lacks}
 use Rattle.ckrt_cli_reports.specs.declared.fault.JobFault.{JobFault}
@@ -146,20 +147,24 @@ abbrev pub CoresRead : {D : Type 0} → Ghosts D → (ℕ → D → Type 0) → 
 CoresRead d Fills c old new (Ok r) result = CoresRecorded d Fills c (recorded_of r) old new result
 CoresRead d Fills c old new (Err why) result = (result ≡ Err (job.History why)) × (new ≡ old)
 
--- A core was made of a history that was opened, that was only read, and closed as it was then. What was read is what it has recorded, if it was
--- honest to that end.
+-- the stretch of a history that leads to the moment of a core: none of its events is told
+abbrev pub moment_stretch : Option ℕ → Stretch
+moment_stretch at = record { from = None; to = at; last = Some 0 }
+
+-- A core was made of a history that was opened, that was only read, and closed as it was then, as was the snapshot of which it was read on, where
+-- one was opened. What was read is what it has recorded, from the snapshot on where that was taken, if it was honest to that end.
 pub record CoresHistory {D : Type 0} (d : Ghosts D) (Opens : D → Type 0) (Fills : ℕ → D → Type 0)
     (c : CoreMaking) (asked new : Openings D) (result : Result (Unit {0}) JobFault)
     : Type 0 where
   pub start : D
   pub is_opened : Opens start
   pub end : D
-  pub answer : Result Recording HistoryFault
-  pub read : IsOnlyRead d start end (history.is_device answer)
-  pub records : history.IsReadAs d start end recorded_of answer Tells
+  pub near : NearRead D
+  pub openings : Openings D
+  pub reads : ReadsNear d (moment_stretch c.at) start end asked openings near
   pub made : Openings D
-  pub cores : CoresRead d Fills c asked made answer result
-  pub closes : new ≡ with_closed made end
+  pub cores : CoresRead d Fills c openings made near.answer result
+  pub closes : new ≡ with_closed (with_snapshot_closed made near.file) end
 
 -- EITHER
 

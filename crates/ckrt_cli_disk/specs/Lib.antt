@@ -11,3 +11,4 @@ pub mod Running
 pub mod Showing
 pub mod Sizes
 pub mod Noting
+pub mod Near

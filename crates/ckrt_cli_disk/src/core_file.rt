@@ -3,15 +3,17 @@ ghost use Rattle.std.specs.Prelude.{◌≡◌, ◌≤◌, Ok, IfOk, IfErr, IfSom
 ghost use Rattle.ckrt_gdb_forms.specs.Core.{core_of};
 ghost use Rattle.ckrt_cli_words.specs.Jobs.{core_making_of};
 ghost use Rattle.ckrt_look_recording.specs.Recording.{recorded_of};
-ghost use Rattle.ckrt_cli_disk.specs.CoreFiles.{Cores, CoresAt, CoresHistory, CoresOpened, CoresPath, CoresRecorded, EndsCore, IsMomentIn, IsProgramAt, MakesCore, WritesCore, WritesInto};
+ghost use Rattle.ckrt_cli_disk.specs.CoreFiles.{Cores, CoresAt, CoresHistory, CoresOpened, CoresPath, CoresRead, CoresRecorded, EndsCore, IsMomentIn, IsProgramAt, MakesCore, WritesCore, WritesInto, moment_stretch};
 
+use crate::near::{NearRead, close_near, read_near};
 use ckrt_cli_files::{FileFault, JobFile, Sources};
 use ckrt_cli_reports::JobFault;
 use ckrt_cli_words::CoreJob;
 use ckrt_disk::{Disk, write_synced};
 use ckrt_gdb_forms::{core_size, write_core};
-use ckrt_history::read_history;
+use ckrt_history::HistoryFault;
 use ckrt_inspect::{InspectFault, read_program};
+use ckrt_look_calls::Stretch;
 use ckrt_look_recording::{Recording, make_events};
 use ckrt_machine::Machine;
 use std::alloc::Global;
@@ -183,7 +185,34 @@ fn make_core_of_recorded<'a, I: Read, D: Disk, S: Sources<'a, I, D>>(
     }
 }
 
-/// Makes a core of what a history that was opened has recorded, and closes the history.
+/// The stretch of a history that leads to the moment of a core.
+fn moment_stretch(at: Option<u64>) -> Stretch
+    ensures { result ≡ moment_stretch at }
+{
+    Stretch {
+        from: None,
+        to: at,
+        last: Some(0),
+    }
+}
+
+/// Makes a core of what was read of a history.
+fn make_core_of_read<'a, I: Read, D: Disk, S: Sources<'a, I, D>>(
+    alloc: Global,
+    answer: Result<Recording, HistoryFault>,
+    job: &CoreJob<'a>,
+    sources: &mut S,
+) -> Result<(), JobFault>
+    ensures { CoresRead D.Disk (S.fills sources.old job.now.file.now) (core_making_of job.now)
+        (S.openings sources.old) (S.openings sources.new) answer result }
+{
+    match answer {
+        Ok(recording) => make_core_of_recorded::<I, D, S>(alloc, recording, job, sources),
+        Err(fault) => Err(JobFault::History(fault)),
+    }
+}
+
+/// Makes a core of what a history that was opened has recorded, from a snapshot on where one is taken, and closes both.
 fn make_core_of_history<'a, I: Read, D: Disk, S: Sources<'a, I, D>>(
     alloc: Global,
     history: D,
@@ -195,12 +224,11 @@ fn make_core_of_history<'a, I: Read, D: Disk, S: Sources<'a, I, D>>(
         (S.openings sources.old) (S.openings sources.new) result }
 {
     let mut history = history;
-    let answer = match read_history(alloc, &mut history) {
-        Ok(recording) => make_core_of_recorded::<I, D, S>(alloc, recording, job, sources),
-        Err(fault) => Err(JobFault::History(fault)),
-    };
-    sources.close(history);
-    answer
+    let stretch = moment_stretch(job.at);
+    let NearRead { answer, file } = read_near::<I, D, S>(alloc, &mut history, &stretch, sources);
+    let made = make_core_of_read::<I, D, S>(alloc, answer, job, sources);
+    close_near(history, file, sources);
+    made
 }
 
 /// Makes a core of what was opened, a history where the words say so, and else a disk, and closes it.

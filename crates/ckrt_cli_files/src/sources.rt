@@ -85,6 +85,10 @@ pub trait Sources<'a, I: Read, D: Disk>: Closes<D> {
         ensures same { GivesSame (image_bytes self.old) (image_bytes self.new) (fills self.old)
             (fills self.new) (gives self.old) (gives self.new) };
 
+    /// The path of the nearest snapshot that is known of the history that is looked at, behind no more events than a position, if there is
+    /// one. That it is a snapshot shows once it is read, so no clause says it.
+    fn nearest_snapshot(&self, position: u64) -> Option<&'a str>;
+
     /// The disk of a path, which is made where it is missing. What is shorter than `size` bytes is filled with zero bytes up
     /// to them first; nothing else is changed.
     fn open_filled(&mut self, path: &'a str, size: usize) -> Result<D, FileFault>

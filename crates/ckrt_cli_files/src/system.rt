@@ -16,6 +16,7 @@ use crate::image_reader::{ImageReader, with_words};
 use crate::image_words::ProgramWords;
 use crate::output::OpenedOutput;
 use crate::reason::OutputReason;
+use crate::snapshot_path::{SnapshotPath, nearest_of};
 use crate::sources::{Closes, Sources, Unlengthened};
 use crate::told::RealDisk;
 use ckrt_disk::{Calls, Disk, FileUse, History, Holds};
@@ -79,6 +80,8 @@ pub struct SystemSources<'a, R, D> {
     history_id: Option<FileId>,
     /// The path that the output will have, if one will.
     output_path: Option<&'a str>,
+    /// The snapshots of the history that is looked at.
+    snapshots: &'a [SnapshotPath],
     /// The file that was made for a disk that isn't formatted yet, or for a core that isn't written.
     made: Option<MadeFile<'a>>,
 }
@@ -119,6 +122,7 @@ impl<'a, R, D> SystemSources<'a, R, D> {
             input_id: None,
             history_id: None,
             output_path: None,
+            snapshots: &[],
             made: None,
         }
     }
@@ -145,6 +149,15 @@ impl<'a, R, D> SystemSources<'a, R, D> {
         ensures opened { opened_by result ≡ opened_by self.entry }
     {
         self.output_path = path;
+        self
+    }
+
+    /// The same files, where these are the snapshots of the history that is looked at.
+    pub fn with_snapshots(mut self, snapshots: &'a [SnapshotPath]) -> SystemSources<'a, R, D>
+        ensures openings { openings_of result ≡ openings_of self.entry }
+        ensures opened { opened_by result ≡ opened_by self.entry }
+    {
+        self.snapshots = snapshots;
         self
     }
 }
@@ -221,12 +234,14 @@ impl<'a, R: Files<File = File>, D> SystemSources<'a, R, D> {
         Ok(file)
     }
 
-    /// The file of a disk that is looked at, which is remembered.
+    /// The file of a disk that is looked at. The first one is remembered: a second one is a snapshot of it.
     fn look_at_file(&mut self, path: &str) -> Result<LookedAt, FileFault>
         ensures { openings_of self.new ≡ openings_of self.old }
     {
         let looked = open_to_look(self.rt, path)?;
-        self.remember(&looked.file);
+        if self.disk_id.is_none() {
+            self.remember(&looked.file);
+        }
         Ok(looked)
     }
 
@@ -450,6 +465,10 @@ impl<'a, R: Files<File = File>, H: Holds> Sources<'a, ImageReader, RealDisk<'a, 
         let opened = self.disk_looked_at(looked, path);
         self.disk = self.disk.with(&FileOpening::of(path, &opened));
         opened
+    }
+
+    fn nearest_snapshot(&self, position: u64) -> Option<&'a str> {
+        nearest_of(self.snapshots, position)
     }
 
     fn open_filled(&mut self, path: &'a str, size: usize) -> Result<RealDisk<'a, H>, FileFault> {

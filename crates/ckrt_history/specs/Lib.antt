@@ -17,3 +17,4 @@ pub mod Many
 pub mod Sizes
 pub mod Parting
 pub mod Excerpts
+pub mod Snapshots

@@ -180,6 +180,10 @@ impl<'a> Sources<'a, &'a [u8], StoppingDisk> for Shelf<'a> {
         Err(FileFault::InUse)
     }
 
+    fn nearest_snapshot(&self, _position: u64) -> Option<&'a str> {
+        None
+    }
+
     fn open_filled(&mut self, path: &'a str, _size: usize) -> Result<StoppingDisk, FileFault> {
         match self.filled.take() {
             Some(disk) => {
