@@ -35,16 +35,25 @@ abbrev pub read_of : Result Snapshot HistoryFault → Option Snapshot
 read_of (Ok s) = Some s
 read_of (Err e) = None
 
--- A file was opened and read as a snapshot. It is only read.
+-- A file that was opened was read as a snapshot. It is only read.
+pub record ReadsFile {D : Type 0} (d : Ghosts D) (start end : D) (snapshot : Option Snapshot)
+    : Type 0 where
+  pub answer : Result Snapshot HistoryFault
+  pub read : IsOnlyRead d start end (is_device answer)
+  pub exact : IsReadAs d start end saved_in answer TellsSnapshot
+  pub is : snapshot ≡ read_of answer
+
+abbrev pub ReadsOpened : {D : Type 0} → Ghosts D → D → Found D → Type 0
+ReadsOpened {D = D} d start found =
+    (end : D) × (found.file ≡ Some end) × ReadsFile d start end found.snapshot
+
+-- A file was opened, and read so.
 pub record ReadsSnapshot {D : Type 0} (d : Ghosts D) (old new : Openings D) (end : D)
     (snapshot : Option Snapshot) : Type 0 where
   pub path : List ℕ
   pub opens : new ≡ with_disk old (opened path)
   pub start : D
-  pub answer : Result Snapshot HistoryFault
-  pub read : IsOnlyRead d start end (is_device answer)
-  pub exact : IsReadAs d start end saved_in answer TellsSnapshot
-  pub is : snapshot ≡ read_of answer
+  pub reads : ReadsFile d start end snapshot
 
 -- one file was opened at most; where none could be, there is no snapshot
 abbrev pub FindsIn : {D : Type 0} → Ghosts D → (old new : Openings D) → (file : Option D)
@@ -78,6 +87,16 @@ AnswersFor image s found (Err e) (Err fault) = fault ≡ e
 AnswersFor image s found (Ok whole) (Ok r) =
     BeginsWith image (position_in s (recorded_of whole)) found (recorded_of whole) (recorded_of r)
 AnswersFor image s found (Ok whole) (Err fault) = AgreesOnFault fault (Is (open_of image))
+
+-- A history that has recorded this was gone on with from a snapshot, where one was taken. It is only read, and so is the file of the snapshot.
+pub record BeginsNear {D : Type 0} (d : Ghosts D) (s : Stretch) (whole : Recording) (start end : D)
+    (openings : Openings D × Openings D) (near : NearRead D) : Type 0 where
+  pub read : IsOnlyRead d start end (is_device near.answer)
+  pub found : Found D
+  pub finds : Finds d openings.0 openings.1 found
+  pub file : near.file ≡ found.file
+  pub answers : d.is_honest end
+      → AnswersFor (d.content start) s found.snapshot (Ok whole) near.answer
 
 -- What a history has recorded was read for a look at this stretch of it, from a snapshot on where one was taken. The history is only read, and so is
 -- the file of the snapshot.

@@ -4,7 +4,7 @@ ghost use Rattle.ckrt_disk.specs.Frame.{IsOnlyRead};
 ghost use Rattle.ckrt_look_recording.specs.Recording.{recorded_of};
 ghost use Rattle.ckrt_cli_files.specs.Sources.{GivesSame};
 ghost use Rattle.ckrt_history.specs.Reads.{is_device};
-ghost use Rattle.ckrt_cli_disk.specs.Near.{AnswersFor, Finds, ReadsNear, position_in, with_snapshot_closed};
+ghost use Rattle.ckrt_cli_disk.specs.Near.{AnswersFor, BeginsNear, Finds, ReadsNear, ReadsOpened, position_in, with_snapshot_closed};
 
 use ckrt_cli_files::{Closes, Sources};
 use ckrt_disk::Disk;
@@ -43,12 +43,25 @@ fn position_in(stretch: &Stretch, whole: &Recording) -> u64
 }
 
 /// The snapshot in a file that was opened.
-fn read_opened<D: Disk>(alloc: Global, file: D) -> Found<D> {
+fn read_opened<D: Disk>(alloc: Global, file: D) -> Found<D>
+    ensures { ReadsOpened D.Disk file result }
+{
     let mut file = file;
     let answer = read_snapshot(alloc, &mut file);
     Found {
         snapshot: answer.ok(),
         file: Some(file),
+    }
+}
+
+/// No snapshot.
+fn nothing<D>() -> Found<D>
+    ensures snapshot { result.snapshot ≡ None }
+    ensures file { result.file ≡ None }
+{
+    Found {
+        snapshot: None,
+        file: None,
     }
 }
 
@@ -62,16 +75,12 @@ fn find_snapshot<'a, I: Read, D: Disk, S: Sources<'a, I, D>>(
     ensures same { GivesSame (S.image_bytes sources.old) (S.image_bytes sources.new)
         (S.fills sources.old) (S.fills sources.new) (S.gives sources.old) (S.gives sources.new) }
 {
-    let none = Found {
-        snapshot: None,
-        file: None,
+    let Some(path) = sources.nearest_snapshot(position) else {
+        return nothing();
     };
-    match sources.nearest_snapshot(position) {
-        Some(path) => match sources.look_at_disk(path) {
-            Ok(file) => read_opened(alloc, file),
-            Err(_) => none,
-        },
-        None => none,
+    match sources.look_at_disk(path) {
+        Ok(file) => read_opened(alloc, file),
+        Err(_) => nothing(),
     }
 }
 
@@ -101,6 +110,10 @@ fn begin_near<'a, I: Read, D: Disk, S: Sources<'a, I, D>>(
     whole: Recording,
     sources: &mut S,
 ) -> NearRead<D>
+    ensures begins { BeginsNear D.Disk stretch.now whole history.old history.new
+        (S.openings sources.old, S.openings sources.new) result }
+    ensures same { GivesSame (S.image_bytes sources.old) (S.image_bytes sources.new)
+        (S.fills sources.old) (S.fills sources.new) (S.gives sources.old) (S.gives sources.new) }
 {
     let position = position_in(stretch, &whole);
     let Found { snapshot, file } = find_snapshot::<I, D, S>(alloc, position, sources);

@@ -30,3 +30,4 @@ pub mod SizeLemmas
 pub mod PartLemmas
 pub mod LaidLemmas
 pub mod PartedLemmas
+mod SnapshotLemmas

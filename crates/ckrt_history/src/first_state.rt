@@ -8,6 +8,7 @@ use ckrt_machine::Machine;
 use ckrt_stored::Config;
 
 /// What a part of a history begins with: a machine that stands in memory, as it is behind the first so many events.
+#[derive(Clone, Copy)]
 pub(crate) struct FirstState<'a> {
     /// The sizes of the history.
     pub config: Config,
