@@ -25,6 +25,7 @@ mod reason;
 mod sources;
 mod system;
 mod told;
+mod watching;
 
 pub use file::{FileFault, JobFile};
 pub use identity::is_same_file;
@@ -35,3 +36,4 @@ pub use reason::OutputReason;
 pub use sources::{Closes, Sources, Unlengthened};
 pub use system::SystemSources;
 pub use told::{RealDisk, ToldFile, ToldWriter};
+pub use watching::{WatchedHistory, open_snapshot, watch_history};
