@@ -5,6 +5,7 @@
 mod asked;
 mod beside;
 mod giving;
+mod keeping;
 mod kept;
 mod rules;
 mod snapshots;
@@ -17,10 +18,13 @@ use ckrt_cli::run_words;
 use ckrt_cli_files::{OutputReason, ProgramWords, SnapshotPath, SystemSources, ToldWriter};
 use ckrt_cli_names::{Form, NamedWriter, Names};
 use ckrt_cli_reports::{SystemMeter, WrittenReport};
-use ckrt_cli_words::{Job, read_names, read_words};
+use ckrt_cli_words::{Job, Keeping, read_keeping, read_names, read_words};
 use ckrt_disk::Calls;
 use ckrt_look_recording::Rule;
 use giving::Giving;
+use keeping::{
+    WrongKeeping, history_of, next_offset, without_last_line, words_without_history, wrong_keeping,
+};
 use kept::KeptWriter;
 use rules::rules_for;
 use snapshots::snapshots_for;
@@ -38,11 +42,18 @@ use words::{
 /// How many bytes of reports are held, so that memory which is refused later takes none away. A job reports some lines.
 const REPORT_ROOM: usize = 65_536;
 
-/// What a job is done with: its words, those that its program gets, the snapshots beside its history, a place for why an output failed, where
-/// it is known the job, and the rules by which it finds callers.
+/// How a job keeps a history whose words say nothing of it.
+const NOTHING_KEPT: Keeping = Keeping {
+    snapshots: None,
+    may_end: false,
+};
+
+/// What a job is done with: its words, how it keeps a history, those that its program gets, the snapshots beside the history that it looks at, a
+/// place for why an output failed, where it is known the job, and the rules by which it finds callers.
 #[derive(Clone, Copy)]
 struct Task<'a, 'j> {
     words: &'a [&'a str],
+    keeping: Keeping,
     program: Option<ProgramWords<'a>>,
     snapshots: &'a [SnapshotPath],
     why: &'a Cell<OutputReason>,
@@ -83,21 +94,27 @@ fn output_of<'a>(job: Option<&Job<'a>>) -> Option<&'a str> {
     }
 }
 
-/// The job of these words on the standard streams; the answer is the program's status.
-fn run<'a>(
+/// What a job came to: its status, what was reported, and, where the history of its drive failed, below which offset its output was put out.
+#[derive(Drop)]
+struct Ran {
+    status: u8,
+    report: Vec<u8>,
+    history_ended: Option<u64>,
+}
+
+/// The job of these words on the standard streams; nothing where memory is refused.
+fn run_once<'a>(
     rt: &'a HostRuntime,
     task: Task<'a, '_>,
     (printed, form): (Names, Form),
-    reported: Names,
-) -> u8 {
-    let Ok(room) = Vec::with_capacity(rt.alloc(), REPORT_ROOM) else {
-        return refuse_memory(rt);
-    };
+) -> Option<Ran> {
+    let room = Vec::with_capacity(rt.alloc(), REPORT_ROOM).ok()?;
     let told = ToldWriter::new(io::writer(rt), task.why);
     let again = names_of_kept(rt, task, &printed);
     let named = NamedWriter::in_form(rt.alloc(), printed, form, told);
     let mut writer = KeptWriter::new(rt, task.why, again, named);
     let mut reporter = WrittenReport::new(room);
+    let mut meter = SystemMeter::new(rt).saving_snapshots(task.keeping.snapshots);
     let sources = SystemSources::new(rt, task.why, Calls::new())
         .with_output(output_of(task.job))
         .with_snapshots(task.snapshots);
@@ -109,11 +126,80 @@ fn run<'a>(
         &mut rt.reader(),
         &mut writer,
         &mut reporter,
-        &mut SystemMeter::new(rt),
+        &mut meter,
     );
     let _ = writer.flush();
-    write_report(rt, task, status, reported, &reporter.into_writer());
-    status
+    Some(Ran {
+        status,
+        report: reporter.into_writer(),
+        history_ended: meter.history_ended(),
+    })
+}
+
+/// Writes what was reported of a job that was done; the answer is the program's status.
+fn report(rt: &HostRuntime, task: Task<'_, '_>, reported: Names, ran: Option<Ran>) -> u8 {
+    match ran {
+        Some(ran) => {
+            write_report(rt, task, ran.status, reported, &ran.report);
+            ran.status
+        }
+        None => refuse_memory(rt),
+    }
+}
+
+/// Says that the history of a drive has ended, and why.
+fn tell_ended(rt: &HostRuntime, task: Task<'_, '_>, report: &[u8]) {
+    let _ = rt.stderr().write_all(without_last_line(report));
+    let history = history_of(task.job).unwrap_or("");
+    let _ = eprintln!(rt; "the history {history} has ended; the drive goes on without it");
+}
+
+/// Does a drive again without its history, whose output was put out below this offset; the answer is the program's status.
+fn go_on(rt: &HostRuntime, task: Task<'_, '_>, reported: Names, put_out: u64) -> u8 {
+    let alloc = rt.alloc();
+    let offset = match next_offset(task.job, put_out) {
+        Some(offset) => match format!(in alloc; "{offset}") {
+            Ok(text) => Some(text),
+            Err(_) => return refuse_memory(rt),
+        },
+        None => None,
+    };
+    let offset = match &offset {
+        Some(text) => Some(text.as_str()),
+        None => None,
+    };
+    let Ok(words) = words_without_history(alloc, task.words, offset) else {
+        return refuse_memory(rt);
+    };
+    let why = Cell::new(OutputReason::Other);
+    let task = Task {
+        words: &words,
+        keeping: NOTHING_KEPT,
+        why: &why,
+        ..task
+    };
+    let ran = run_once(rt, task, (Names::none(alloc), Form::Notes));
+    report(rt, task, reported, ran)
+}
+
+/// The job of these words on the standard streams; the answer is the program's status. Where the history of its drive fails, and may, the drive
+/// goes on without it.
+fn run<'a>(rt: &'a HostRuntime, task: Task<'a, '_>, printed: (Names, Form), reported: Names) -> u8 {
+    let ran = run_once(rt, task, printed);
+    match &ran {
+        Some(
+            Ran {
+                report,
+                history_ended: Some(put_out),
+                ..
+            },
+        ) if task.keeping.may_end => {
+            tell_ended(rt, task, report);
+            return go_on(rt, task, reported, *put_out);
+        }
+        _ => {}
+    }
+    report(rt, task, reported, ran)
 }
 
 /// A task without names.
@@ -203,6 +289,13 @@ fn run_named<'a>(rt: &'a HostRuntime, task: Task<'a, '_>, job: &Job<'a>) -> u8 {
     }
 }
 
+/// Says what is wrong with the words on how a history is kept; the answer is the program's status.
+fn refuse_keeping(rt: &HostRuntime, wrong: WrongKeeping) -> u8 {
+    let text = wrong.text();
+    let _ = eprintln!(rt; "error: {text}");
+    2
+}
+
 /// Says what is wrong with the words for a program; the answer is the program's status.
 fn refuse_words(rt: &HostRuntime, wrong: WrongWords<'_>) -> u8 {
     let _ = match wrong {
@@ -227,6 +320,7 @@ fn run_given<'a>(
 ) -> u8 {
     let task = Task {
         words,
+        keeping: NOTHING_KEPT,
         program: program_words(arguments, variables),
         snapshots,
         why,
@@ -236,9 +330,15 @@ fn run_given<'a>(
     let Ok(job) = read_words(rt.alloc(), words) else {
         return run_plain(rt, task);
     };
+    let Ok(keeping) = read_keeping(rt.alloc(), words) else {
+        return refuse_memory(rt);
+    };
+    if let Some(wrong) = wrong_keeping(keeping, &job) {
+        return refuse_keeping(rt, wrong);
+    }
     match wrong_words(task.program, &job) {
         Some(wrong) => refuse_words(rt, wrong),
-        None => run_named(rt, task, &job),
+        None => run_named(rt, Task { keeping, ..task }, &job),
     }
 }
 
@@ -257,6 +357,7 @@ fn run_arguments(rt: &HostRuntime) -> io::Result<u8> {
 fn show_usage<'a>(rt: &'a HostRuntime, words: &'a [&'a str], why: &'a Cell<OutputReason>) -> u8 {
     let task = Task {
         words,
+        keeping: NOTHING_KEPT,
         program: None,
         snapshots: &[],
         why,

@@ -86,6 +86,13 @@ fn run_alone<D: Disk, O: Disk, F: Feed, M: Meter>(
     }
 }
 
+/// Tells the meter where the file of the history failed, or has no room left.
+fn tell_history<M: Meter>(answer: &Result<Option<ScheduleEnd>, KeepingFault>, meter: &mut M) {
+    if let Err(KeepingFault::Device | KeepingFault::Full) = answer {
+        meter.history_failed();
+    }
+}
+
 /// The same with a history, which has all events of the disk.
 fn run_keeping<D: Disk, O: Disk, F: Feed, M: Meter>(
     session: Session<D>,
@@ -110,6 +117,7 @@ fn run_keeping<D: Disk, O: Disk, F: Feed, M: Meter>(
     let drive = Drive::with_feed(session, output, options, feed, taken);
     let keeping = KeepingDrive::new(drive, history);
     let ran = keeping.run(u64::MAX, meter);
+    tell_history(&ran.answer, meter);
     let driven = driven_of(ran.session.machine(), ran.answer);
     Undertaken {
         session: ran.session,

@@ -26,6 +26,7 @@ mod snapshot_path;
 mod sources;
 mod system;
 mod told;
+mod watching;
 
 pub use file::{FileFault, JobFile};
 pub use identity::is_same_file;
@@ -37,3 +38,4 @@ pub use snapshot_path::SnapshotPath;
 pub use sources::{Closes, Sources, Unlengthened};
 pub use system::SystemSources;
 pub use told::{RealDisk, ToldFile, ToldWriter};
+pub use watching::{WatchedHistory, open_snapshot, watch_history};

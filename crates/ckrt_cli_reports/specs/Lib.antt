@@ -6,3 +6,4 @@ pub mod Statuses
 pub mod Ends
 pub mod Lines
 pub mod Standings
+pub mod Reaches

@@ -3,7 +3,9 @@ ghost use Rattle.std.specs.Prelude.{◌≡◌};
 ghost use Rattle.ckrt_cli_reports.specs.Ends.{standing_of};
 ghost use Rattle.ckrt_cli_reports.specs.Standings.{readings_of};
 
+use crate::history_watch::HistoryWatch;
 use crate::hunted::HuntTimes;
+use crate::reach::{Behind, Reach};
 use crate::rhythm::Rhythm;
 use crate::status::StatusFile;
 use crate::table::TableFile;
@@ -104,8 +106,8 @@ impl Counts {
 }
 
 /// Tells from time to time how far a drive is: by a line on standard error, with the events of the disk since its first one, guest
-/// steps since the drive began, guest steps a second since the last line, bytes of output of acknowledged events, generation, and
-/// the room that the journal has left in bytes; and by a file. Of a hunt the line has the seeds that were run and the last of them, seeds a
+/// steps since the drive began, guest steps a second since the last line, bytes of output of acknowledged events, generation, the room that the
+/// journal has left in bytes, and how far the history is that is kept; and by a file. It also has snapshots of that history made. Of a hunt the line has the seeds that were run and the last of them, seeds a
 /// second since the last line, and how many outcomes there are; and a file has its table. Where the clock or standard error fails there is no
 /// line.
 #[derive(Drop)]
@@ -121,6 +123,14 @@ pub struct SystemMeter<'a, R> {
     unlooked: u32,
     counts: Counts,
     steps_at_last_line: u64,
+    /// The history that the drive keeps, where it keeps one.
+    history: Option<HistoryWatch>,
+    /// How many seconds lie at least between two snapshots of that.
+    snapshots: Option<u64>,
+    /// Below which offset all output was put out at the last look.
+    put_out: u64,
+    /// Below which one it was where the history failed.
+    history_ended: Option<u64>,
     hunt: HuntTimes,
 }
 
@@ -138,7 +148,30 @@ impl<'a, R: Clock + Eprint + Files<File = File>> SystemMeter<'a, R> {
             unlooked: 0,
             counts: Counts::new(),
             steps_at_last_line: 0,
+            history: None,
+            snapshots: None,
+            put_out: 0,
+            history_ended: None,
             hunt: HuntTimes::begun(None, None),
+        }
+    }
+
+    /// The same, which has a snapshot of the history made at most each so many seconds, if there is to be any.
+    pub fn saving_snapshots(mut self, seconds: Option<u64>) -> SystemMeter<'a, R> {
+        self.snapshots = seconds;
+        self
+    }
+
+    /// Where the history's file failed while a drive kept it, the offset below which all output was put out by then.
+    pub fn history_ended(&self) -> Option<u64> {
+        self.history_ended
+    }
+
+    /// How far the history is, where there is one that can be read.
+    fn reach(&mut self) -> Option<Reach> {
+        match &mut self.history {
+            Some(history) => history.reach(),
+            None => None,
         }
     }
 
@@ -155,15 +188,17 @@ impl<'a, R: Clock + Eprint + Files<File = File>> SystemMeter<'a, R> {
 
     /// Prints a line.
     fn print<D: Disk>(&mut self, since: Duration, session: &Session<D>) {
+        let reach = self.reach();
         let steps = u128::from(self.counts.steps.saturating_sub(self.steps_at_last_line));
         let _ = eprintln!(self.rt;
-            "progress: {} events, {} steps, {} steps a second, {} bytes of output, generation {}, room {}",
+            "progress: {} events, {} steps, {} steps a second, {} bytes of output, generation {}, room {}{}",
             self.counts.all_events(),
             self.counts.steps,
             1_000 * steps / since.as_millis().max(1),
             session.released(),
             session.generation(),
-            session.room()
+            session.room(),
+            Behind(reach)
         );
         self.steps_at_last_line = self.counts.steps;
         self.lines.last = self.moment();
@@ -186,10 +221,14 @@ impl<'a, R: Clock + Eprint + Files<File = File>> SystemMeter<'a, R> {
     fn write_status<D: Disk>(&mut self, session: &Session<D>, standing: Standing) {
         self.statuses.last = self.moment();
         let readings = self.counts.readings(session, standing);
+        if self.status.is_none() {
+            return;
+        }
+        let reach = self.reach();
         let Some(status) = &mut self.status else {
             return;
         };
-        let written = status.write(self.rt, &readings, session.machine().tables());
+        let written = status.write(self.rt, &readings, session.machine().tables(), reach);
         if let Err(fault) = written {
             if self.is_written {
                 let _ = eprintln!(self.rt; "ckrt: the status {}: {}", status.path(), fault.text());
@@ -235,6 +274,20 @@ impl<'a, R: Clock + Eprint + Files<File = File>> SystemMeter<'a, R> {
         self.tables.last = self.moment();
     }
 
+    /// Opens the history that is kept.
+    fn open_history(&mut self) {
+        if let Some(history) = &mut self.history {
+            history.open(self.rt);
+        }
+    }
+
+    /// Has a snapshot of the history made, where that is due.
+    fn save_snapshot<D: Disk>(&mut self, session: &Session<D>) {
+        if let Some(history) = &mut self.history {
+            history.save_due(self.rt, session.count(), session.machine());
+        }
+    }
+
     /// Tells what is due.
     fn tell_due<D: Disk>(&mut self, session: &Session<D>) {
         if let Some(since) = self.lines.due(self.rt) {
@@ -252,9 +305,14 @@ impl<'a, R: Clock + Eprint + Files<File = File>> Onlooker for SystemMeter<'a, R>
         let is_first = self.counts.earlier_events.is_none();
         if is_first {
             self.counts.earlier_events = Some(session.acknowledged());
+            self.open_history();
         }
+        self.put_out = session.confirmed();
         if let StepDone::Submitted(event, answer) = did {
             self.counts.count(event, answer);
+        }
+        if let StepDone::Committed = did {
+            self.save_snapshot(session);
         }
         if is_first || matches!(did, StepDone::Stopped(_)) {
             self.write_status(session, standing_of(did));
@@ -278,10 +336,19 @@ impl<'a, R: Clock + Eprint + Files<File = File>> Meter for SystemMeter<'a, R> {
             Some(path) => StatusFile::new(alloc, path, &watch.paths),
             None => None,
         };
+        let is_told = watch.progress.is_some() || watch.status.is_some();
+        self.history = match watch.paths.history {
+            Some(path) => HistoryWatch::new(alloc, path, is_told, self.snapshots),
+            None => None,
+        };
     }
 
     fn fed(&mut self, taken: u64) {
         self.counts.taken = Some(taken);
+    }
+
+    fn history_failed(&mut self) {
+        self.history_ended = Some(self.put_out);
     }
 }
 

@@ -35,10 +35,15 @@ pub trait Meter: Onlooker {
 
     /// The drive has an input, of which its program has taken so many bytes.
     fn fed(&mut self, taken: u64);
+
+    /// The file of the drive's history failed, or has no room left, so the drive doesn't go on.
+    fn history_failed(&mut self);
 }
 
 impl Meter for Nobody {
     fn begin(&mut self, _alloc: Global, _watch: Watch<'_>) {}
 
     fn fed(&mut self, _taken: u64) {}
+
+    fn history_failed(&mut self) {}
 }

@@ -6,8 +6,8 @@
 -- `profile DISK [--history] [--from K] [--to K] [--last N] [--names FILE] [--folded | --callgrind]`, `history FILE [--disk DISK | --part PART --from K [--to K]]`,
 -- `hunt IMAGE [--seeds A-B | --seconds S] [--pages P] [--harts H] [--input FILE] [--steps N] [--races | --check] [--memory BYTES] [--ignore-output] [--rows] [--keep DISK | FOLDER/] [--table FILE]
 -- [--progress SECONDS] [--names FILE] [--env NAME=VALUE]` and
--- `drive DISK [--image IMAGE] [--pages P] [--harts H] [--journal J] [--input FILE] [--input-from OFFSET] [--output FILE] [--history FILE] [--turn N] [--rounds-per-commit R] [--events N] [--seed S] [--other-schedule]
--- [--progress SECONDS] [--status FILE] [--from OFFSET] [--names FILE] [--env NAME=VALUE]`.
+-- `drive DISK [--image IMAGE] [--pages P] [--harts H] [--journal J] [--input FILE] [--input-from OFFSET] [--output FILE] [--history FILE] [--snapshots SECONDS] [--history-may-end] [--turn N]
+-- [--rounds-per-commit R] [--events N] [--seed S] [--other-schedule] [--progress SECONDS] [--status FILE] [--from OFFSET] [--names FILE] [--env NAME=VALUE]`.
 use Rattle.std.specs.Prelude.{pos, codes, fold, Some, true, List, [], ◌∷◌}
 use Rattle.clap.specs.Words.{App, Rule, Text, new_app, new_rule, with_rule, with_subcommand}
 use Rattle.clap.specs.declared.builder.value_parser.ValueParser.TheVariants.{Signed, Unsigned}
@@ -157,7 +157,7 @@ history_app =
 abbrev pub drive_app : App
 drive_app =
     with_rule (with_rule (with_rule (with_rule (with_rule (with_rule (with_rule (with_rule (with_rule (with_rule (with_rule (with_rule (with_rule
-    (with_rule (with_rule (with_rule (with_rule (with_rule (with_rule (new_app (codes "drive"))
+    (with_rule (with_rule (with_rule (with_rule (with_rule (with_rule (with_rule (with_rule (new_app (codes "drive"))
     (needed_rule (codes "disk")))
     (option_rule (codes "image")))
     (size_rule (codes "pages")))
@@ -167,6 +167,8 @@ drive_app =
     (place_rule (codes "input-from")))
     (option_rule (codes "output")))
     (option_rule (codes "history")))
+    (place_rule (codes "snapshots")))
+    (flag_rule (codes "history-may-end")))
     (number_rule (codes "turn") (codes "1000000")))
     (number_rule (codes "rounds-per-commit") (codes "16")))
     (place_rule (codes "events")))

@@ -23,6 +23,7 @@ use Rattle.ckrt_cli_words.specs.declared.job.ProfileForm.{ProfileForm}
 use Rattle.ckrt_cli_words.specs.declared.job.ProfileForm.TheVariants as form
 use Rattle.ckrt_cli_words.specs.declared.job.ProfileJob.{ProfileJob}
 use Rattle.ckrt_cli_words.specs.declared.job.Sizes.{Sizes}
+use Rattle.ckrt_cli_words.specs.declared.job.Keeping.{Keeping}
 
 -- what `format` makes
 pub record Formatting : Type 0 where
@@ -456,3 +457,21 @@ names_of_words [] = None
 names_of_words (w ∷ ws) =
     if asks_version (w ∷ ws) then None
     else option_and_then names_in (subcommand_of ckrt_app (w ∷ ws))
+
+-- how a command with these matches keeps its history: at most each how many seconds it makes a snapshot, and whether it goes on where that ends
+abbrev pub keeping_in : Text × List Row → Keeping
+keeping_in p = record {
+  snapshots = place_in (codes "snapshots") p.1;
+  may_end = flag_in (codes "history-may-end") p.1;
+}
+
+-- that of words which say nothing of it
+abbrev pub plain_keeping : Keeping
+plain_keeping = record { snapshots = None; may_end = false }
+
+-- how the words after the program's name keep a history
+abbrev pub keeping_of_words : List Text → Keeping
+keeping_of_words [] = plain_keeping
+keeping_of_words (w ∷ ws) =
+    if asks_version (w ∷ ws) then plain_keeping
+    else option_map_or keeping_in (subcommand_of ckrt_app (w ∷ ws)) plain_keeping

@@ -224,7 +224,7 @@ fn history_arguments<'a>(alloc: Global) -> Result<Vec<Arg<'a>>, AllocError>
     Ok(arguments)
 }
 
-/// `drive DISK` with its options: how a missing disk is made, where input, output and history are, how it goes on, and where names are.
+/// `drive DISK` with its options: how a missing disk is made, where input, output and history are, how that is kept, how the drive goes on, and where names are.
 fn drive_command<'a>(alloc: Global) -> Result<Command<'a>, AllocError>
     ensures app { IfOk result (λ c. app_of c ≡ drive_app) }
     ensures local { IfOk result (λ c. (out-Command c).has_globals ≡ false) }
@@ -291,6 +291,17 @@ fn drive_arguments<'a>(alloc: Global) -> Result<Vec<Arg<'a>>, AllocError>
             "history",
             "FILE",
             "The file to keep all events of the disk in, batch by batch; it is made where it is missing"
+        ),
+        place(
+            alloc,
+            "snapshots",
+            "SECONDS",
+            "Make a snapshot of the history in FILE.snapshots, at most once in so many seconds, 1 or more; with --history"
+        ),
+        flag(
+            alloc,
+            "history-may-end",
+            "Go on without the history where its file fails, as on a full file system; with --history"
         ),
         number(
             alloc,

@@ -240,6 +240,15 @@ pub struct DriveJob<'a> {
     pub from: Option<u64>,
 }
 
+/// How a drive keeps its history, beside its job. The number is as it was given, and may be 0.
+#[derive(Clone, Copy, Debug, PartialEq, Eq)]
+pub struct Keeping {
+    /// How many seconds lie at least between two snapshots of the history; this isn't given where none is made.
+    pub snapshots: Option<u64>,
+    /// Whether the drive goes on where the history's file fails.
+    pub may_end: bool,
+}
+
 /// Why words name no job.
 #[derive(Debug, Drop, Error)]
 pub enum WordsFault {

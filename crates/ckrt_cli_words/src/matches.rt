@@ -1,11 +1,12 @@
 //! What the matches of a command line name.
 ghost use Rattle.std.specs.Prelude.{◌≡◌, codes, option_and_then, option_map};
+ghost use Rattle.std.specs.Option.{option_map_or};
 ghost use Rattle.clap.specs.Words.{first_of, found_of, rows_of, subcommand_rows_of};
-ghost use Rattle.ckrt_cli_words.specs.Jobs.{calls, check, core, core_making_in, core_making_of, debug, debugging_in, debugging_of, disk_stretch_in, disk_stretch_of, drawing_in, drawing_of, drive, driving_in, driving_of, flag_in, form_of, format, formatting_in, formatting_of, history, history_keeping_in, history_keeping_of, hunt, hunting_in, hunting_of, inspect, inspection_in, inspection_of, names_in, number_in, place_in, profile, profiling_in, profiling_of, races, request_in, request_of, run, shadowing_in, shadowing_of, sizes_in, timeline};
+ghost use Rattle.ckrt_cli_words.specs.Jobs.{calls, check, core, core_making_in, core_making_of, debug, debugging_in, debugging_of, disk_stretch_in, disk_stretch_of, drawing_in, drawing_of, drive, driving_in, driving_of, flag_in, form_of, format, formatting_in, formatting_of, history, history_keeping_in, history_keeping_of, hunt, hunting_in, hunting_of, inspect, inspection_in, inspection_of, keeping_in, names_in, number_in, place_in, plain_keeping, profile, profiling_in, profiling_of, races, request_in, request_of, run, shadowing_in, shadowing_of, sizes_in, timeline};
 
 use crate::job::{
-    CoreJob, DebugJob, DriveJob, FormatJob, HistoryJob, HuntJob, InspectJob, Job, ProfileForm,
-    ProfileJob, ShadowJob, Sizes, StretchJob, TimelineJob,
+    CoreJob, DebugJob, DriveJob, FormatJob, HistoryJob, HuntJob, InspectJob, Job, Keeping,
+    ProfileForm, ProfileJob, ShadowJob, Sizes, StretchJob, TimelineJob,
 };
 use clap::ArgMatches;
 
@@ -376,4 +377,21 @@ pub(crate) fn names_file<'a>(matches: &ArgMatches<'a>) -> Option<&'a str>
 {
     let (_, given) = command_named(matches)?;
     text(given, "names")
+}
+
+/// How the command that the matches name keeps a history.
+pub(crate) fn keeping(matches: &ArgMatches<'_>) -> Keeping
+    ensures { result
+        ≡ option_map_or keeping_in (subcommand_rows_of matches.now) plain_keeping }
+{
+    match command_named(matches) {
+        Some((_, given)) => Keeping {
+            snapshots: place(given, "snapshots"),
+            may_end: flag(given, "history-may-end"),
+        },
+        None => Keeping {
+            snapshots: None,
+            may_end: false,
+        },
+    }
 }

@@ -2,9 +2,9 @@
 ghost use Rattle.std.specs.Prelude.{◌≡◌, ◌≢◌, [], IfOk, IfErr, IsErrOf, Some, false, map, option_and_then, option_map, true};
 ghost use Rattle.clap.specs.Words.{fault_of, kind_of, subcommand_of, subcommand_rows_of, takes};
 ghost use Rattle.ckrt_cli_words.specs.Commands.{ckrt_app};
-ghost use Rattle.ckrt_cli_words.specs.Jobs.{asks_both_forms, asks_version, names_of_words, request_in, request_of, request_of_words};
+ghost use Rattle.ckrt_cli_words.specs.Jobs.{asks_both_forms, asks_version, keeping_of_words, names_of_words, request_in, request_of, request_of_words};
 
-use crate::job::{Job, WordsFault};
+use crate::job::{Job, Keeping, WordsFault};
 use crate::{command, matches};
 use clap::error::ErrorKind;
 use clap::{ArgMatches, Error};
@@ -72,7 +72,7 @@ const HISTORY_USAGE: &str =
 
 /// What follows a number of `drive` that isn't one.
 const DRIVE_USAGE: &str =
-    "Usage: ckrt drive <DISK> [--image <IMAGE>] [--pages 16 to 65536] [--harts 1 to 8] [--journal 4096 to 1048576 by 4096] [--input <FILE>] [--input-from OFFSET] [--output <FILE>] [--history <FILE>] [--turn 1 to 1000000] [--rounds-per-commit NUMBER OF ROUNDS] [--events NUMBER OF EVENTS] [--seed NUMBER] [--other-schedule] [--progress SECONDS] [--status <FILE>] [--from OFFSET] [--names <FILE>] [--env NAME=VALUE] [-- ARGUMENTS]";
+    "Usage: ckrt drive <DISK> [--image <IMAGE>] [--pages 16 to 65536] [--harts 1 to 8] [--journal 4096 to 1048576 by 4096] [--input <FILE>] [--input-from OFFSET] [--output <FILE>] [--history <FILE>] [--snapshots SECONDS] [--history-may-end] [--turn 1 to 1000000] [--rounds-per-commit NUMBER OF ROUNDS] [--events NUMBER OF EVENTS] [--seed NUMBER] [--other-schedule] [--progress SECONDS] [--status <FILE>] [--from OFFSET] [--names <FILE>] [--env NAME=VALUE] [-- ARGUMENTS]";
 
 /// What follows a number that isn't one, by the command.
 fn number_usage(words: &[&str]) -> &'static str {
@@ -213,6 +213,31 @@ pub fn read_names<'a>(alloc: Global, words: &'a [&'a str]) -> Result<Option<&'a 
     }
     match matches_of(alloc, words) {
         Ok(matches) => Ok(matches::names_file(&matches)),
+        Err(error) => Err(fault(alloc, words, &error)),
+    }
+}
+
+/// How the words after the program's name keep a history, by `--snapshots` and `--history-may-end`: without either where they give none, and for
+/// no words and `--version`. The job that [`read_words`] makes of the words is the same with them and without. The number is of 64 bits.
+///
+/// # Errors
+///
+/// Those of [`read_words`], but for both forms of a profile.
+pub fn read_keeping<'a>(alloc: Global, words: &'a [&'a str]) -> Result<Keeping, WordsFault>
+    ensures keeping { IfOk result (λ keeping.
+        keeping ≡ keeping_of_words (map (λ s. s.now) words.entry.now)) }
+    ensures taken { IfErr result (λ e.
+        takes ckrt_app (map (λ s. s.now) words.entry.now) ≡ true
+        → e ≡ WordsFault.OutOfMemory) }
+{
+    if words.is_empty() || is_version(words) {
+        return Ok(Keeping {
+            snapshots: None,
+            may_end: false,
+        });
+    }
+    match matches_of(alloc, words) {
+        Ok(matches) => Ok(matches::keeping(&matches)),
         Err(error) => Err(fault(alloc, words, &error)),
     }
 }
