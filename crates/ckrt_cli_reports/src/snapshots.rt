@@ -34,8 +34,8 @@ fn trouble_of(fault: PartFault, why: OutputReason) -> Option<Trouble> {
     match fault {
         PartFault::Part(HistoryFault::NotAHistory) => None,
         PartFault::Part(HistoryFault::Device) => Some(failed(why)),
-        PartFault::Part(HistoryFault::OutOfMemory)
-        | PartFault::Whole(HistoryFault::OutOfMemory) => Some(FileFault::OutOfMemory.text()),
+        PartFault::Part(HistoryFault::OutOfMemory) | PartFault::Whole(HistoryFault::OutOfMemory) =>
+            Some(FileFault::OutOfMemory.text()),
         PartFault::Part(_) => Some(FileFault::NotAHistory.text()),
         PartFault::Whole(_) => Some(UNREADABLE),
         PartFault::Unrecorded => Some("the history is of another size than the program"),

@@ -31,3 +31,4 @@ pub mod PartLemmas
 pub mod LaidLemmas
 pub mod PartedLemmas
 mod SnapshotLemmas
+mod OwnLemmas

@@ -1,5 +1,6 @@
 -- What a file has in which a snapshot was saved.
-use Rattle.std.proofs.Common.{◌≡◌, inl, inr, ℕ, ◌+◌, ◌≤◌, ◌<◌, ◌^◌, List, [], ◌++◌, length, take, drop, refl, sym, ◌∙◌, ap, arith, append-nil, length-append}
+use Rattle.std.proofs.Common.{◌≡◌, inl, inr, ℕ, ◌+◌, ◌≤◌, ◌<◌, ◌^◌, List, [], ◌++◌, length, take, drop, refl, sym, ◌∙◌, ap, arith, length-append}
+use Rattle.std.proofs.lemmas.List.{append-nil, take_all}
 use Rattle.byteorder.specs.Endian.{little_bytes, little_number}
 use Rattle.byteorder.specs.Numbers.{little_number-reads_back}
 use Rattle.ckrt_machine.specs.Steps.{State}
@@ -19,8 +20,8 @@ unfolding number_at
 note_number n digest small =
     ap (λ (l : List ℕ). little_number 8 l) (sym (append-nil (little_bytes 8 n))) ∙ little_number-reads_back 8 n [] small
 
-note_digest : (n : ℕ) (digest : List ℕ) → drop 8 (note_of n digest) ≡ digest
-note_digest n digest = refl
+note_digest : (n : ℕ) (digest : List ℕ) → length digest ≡ 32 → take 32 (drop 8 (note_of n digest)) ≡ digest
+note_digest n digest long = take_all 32 digest (omega (arith, long))
 
 pub note_long : (n : ℕ) (digest : List ℕ) → length digest ≡ 32 → length (note_of n digest) ≡ 40
 note_long n digest long = omega (arith, length-append (little_bytes 8 n) digest, long)
@@ -44,7 +45,9 @@ module _ (whole : List ℕ) (e : LaidState) (of : IsStateOf whole e) where
       record {
         recorded = r;
         has = state_there image empty;
-        is = sym (ap (λ (l : List ℕ). saved_with r l) read ∙ ap (λ m. record { first = e.first; start = e.state; bytes = m; digest = drop 8 note }) (note_number n digest small));
+        is = sym (ap (λ (l : List ℕ). saved_with r l) read
+            ∙ ap (λ m. record { first = e.first; start = e.state; bytes = m; digest = take 32 (drop 8 note) }) (note_number n digest small)
+            ∙ ap (λ (l : List ℕ). record { first = e.first; start = e.state; bytes = n; digest = l }) (note_digest n digest long));
       }
 
 -- a history has all of a front

@@ -1,10 +1,11 @@
 -- Snapshots: the state of a history's program behind so many events, in a file of its own beside the history (this project's own format). A digest
 -- says of which bytes of a history it is: SHA-256 (FIPS 180-4).
-use Rattle.std.specs.Prelude.{◌≡◌, ◌⊎◌, ◌≤◌, ◌<◌, ◌+◌, ◌-◌, ◌++◌, ◌&&◌, ℕ, Bool, true, false, nat_le, List, [], take, drop, Result, Ok, Err}
+use Rattle.std.specs.Prelude.{◌≡◌, ◌⊎◌, ◌≤◌, ◌<◌, ◌+◌, ◌-◌, ◌++◌, ◌&&◌, ℕ, Bool, true, false, nat_le, List, [], length, take, drop, None, Result, Ok, Err}
 use Rattle.byteorder.specs.Endian.{little_bytes}
 use Rattle.sha2.specs.Sha256.{sha256}
 use Rattle.ckrt_disk.specs.Frame.{MayBeLeft}
 use Rattle.ckrt_disk.specs.declared.disk.Disk.{Ghosts}
+use Rattle.ckrt_machine.specs.Events.{AllAccepted, fold}
 use Rattle.ckrt_machine.specs.Steps.{State}
 use Rattle.ckrt_stored.specs.Layout.{COUNT_LIMIT, is_open, number_at, size_needed}
 use Rattle.ckrt_stored.specs.declared.config.Config.{Config}
@@ -15,6 +16,7 @@ use Rattle.ckrt_history.specs.Beginning.{takes_history}
 use Rattle.ckrt_history.specs.Excerpts.{laid_state_in}
 use Rattle.ckrt_history.specs.Front.{FIELDS_END, config_of}
 use Rattle.ckrt_history.specs.History.{HasFault, HasHistory}
+use Rattle.ckrt_history.specs.Parting.{IsPart}
 use Rattle.ckrt_history.specs.Reads.{AgreesOnFault, Is}
 use Rattle.ckrt_history.specs.Sizes.{HasSizes}
 use Rattle.ckrt_history.specs.declared.fault.HistoryFault.{HistoryFault}
@@ -23,7 +25,7 @@ use Rattle.ckrt_history.specs.declared.first_state.FirstState.{FirstState}
 use Rattle.ckrt_history.specs.declared.opened.OpenHistory.{OpenHistory}
 use Rattle.ckrt_history.specs.declared.part_fault.PartFault.{PartFault}
 use Rattle.ckrt_history.specs.declared.part_fault.PartFault.TheVariants.{Whole, Unrecorded, Part, TooSmall}
-use Rattle.ckrt_history.specs.declared.saver.Origin.{Origin}
+use Rattle.ckrt_history.specs.declared.origin.Origin.{Origin}
 use Rattle.ckrt_history.specs.declared.snapshot.Snapshot.{Snapshot}
 
 -- WHAT ONE IS
@@ -57,7 +59,7 @@ saved_with r note = record {
   first = r.first;
   start = r.start;
   bytes = number_at 8 0 note;
-  digest = drop 8 note;
+  digest = take 32 (drop 8 note);
 }
 
 -- These bytes are one: a history, which begins with that state, and whose front has that note.
@@ -80,7 +82,7 @@ gate_at o = o.journal.at + o.journal.next_gate
 -- It is of a history with these bytes: the first so many, none of which is behind the gate that ends it, have its digest.
 pub record IsOwn (image : List ℕ) (s : SavedState) : Type 0 where
   pub place : OpenHistory
-  pub open : open_of image ≡ Ok place
+  pub ends : open_of image ≡ Ok place
   pub within : s.bytes ≤ gate_at place
   pub digest : sha256 (take s.bytes image) ≡ s.digest
 
@@ -116,7 +118,7 @@ state_alone count state = record { first = count; start = state; events = [] }
 -- The bytes of the file are one of that state, and of a history with these bytes, as it ends.
 pub record IsSavedOf (whole : List ℕ) (count : ℕ) (state : State) (image : List ℕ) : Type 0 where
   pub place : OpenHistory
-  pub open : open_of whole ≡ Ok place
+  pub ends : open_of whole ≡ Ok place
   pub digest : List ℕ
   pub is_digest : digest ≡ sha256 (take (gate_at place) whole)
   pub is : HasSnapshot image (record {
@@ -181,3 +183,28 @@ TellsSaving bytes size count state whole file (Err TooSmall) =
     (c : Config) × (config_of whole ≡ Ok c) × (size ≤ size_needed c)
 TellsSaving bytes size count state whole file (Err (Part e)) =
     (e ≡ history.Device) ⊎ ((e ≡ history.NotAHistory) × (takes_history bytes file ≡ false))
+
+-- LAWS
+
+-- how a snapshot was saved of a history with these bytes: that had just these events then, and the snapshot has the plain fold's state behind them
+pub record IsSavedBehind (whole : List ℕ) (r : Recorded) (s : SavedState) : Type 0 where
+  pub has : HasHistory whole r
+  pub accepted : AllAccepted r.events r.start
+  pub place : OpenHistory
+  pub ends : open_of whole ≡ Ok place
+  pub bytes : s.bytes ≡ gate_at place
+  pub digest : s.digest ≡ sha256 (take s.bytes whole)
+  pub first : s.first ≡ end_of r
+  pub start : s.start ≡ (fold r.events r.start).state
+
+-- two lists of bytes with one digest are the same
+abbrev pub DontCollide : (one other : List ℕ) → Type 0
+DontCollide one other = sha256 one ≡ sha256 other → one ≡ other
+
+-- A snapshot that is a history's own begins just the part of it from there on, whenever it was saved; unless its digest is that of other bytes, too.
+abbrev pub SnapshotsBeginParts : Type 0
+SnapshotsBeginParts =
+    (saved now : List ℕ) (r₀ r : Recorded) (s : SavedState) → IsSavedBehind saved r₀ s
+    → length now ≡ length saved → HasHistory now r → IsOwn now s
+    → DontCollide (take s.bytes now) (take s.bytes saved)
+    → IsPart (record { from = s.first; to = None }) r (from_snapshot s r)

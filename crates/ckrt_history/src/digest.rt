@@ -31,10 +31,7 @@ fn add_piece<D: Disk>(
 }
 
 /// The SHA-256 digest of the first bytes of a file. The file is only read.
-pub(crate) fn digest_of_first<D: Disk>(
-    file: &mut D,
-    count: usize,
-) -> Result<[u8; 32], DeviceFault>
+pub(crate) fn digest_of_first<D: Disk>(file: &mut D, count: usize) -> Result<[u8; 32], DeviceFault>
     requires { count ≤ D.size file.old }
     ensures read { IsOnlyRead D.Disk file.old file.new (is_err result) }
     ensures exact { IfOk result (λ digest.

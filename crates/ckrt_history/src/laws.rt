@@ -5,6 +5,7 @@ ghost use Rattle.ckrt_history.specs.History.{HasNoFault, IsRecordedOnce};
 ghost use Rattle.ckrt_history.specs.Kept.{BeginsAtEnd, GoesOnTogether, KeepsOn};
 ghost use Rattle.ckrt_history.specs.Many.{BeginBeside, KeepsTheAcknowledged, RecordingsAreTheirs, RunsStandBeside};
 ghost use Rattle.ckrt_history.specs.Parting.{PartsAreTheirs};
+ghost use Rattle.ckrt_history.specs.Snapshots.{SnapshotsBeginParts};
 
 use ckrt_disk::Disk;
 
@@ -57,4 +58,10 @@ pub fn runs_stand_beside_a_history<D: Disk, O: Disk, K: Disk>()
 /// first ones, and has those that follow, in order.
 pub fn parts_have_the_same_events()
     ensures { PartsAreTheirs }
+{}
+
+/// A snapshot that is a history's own begins just the part of it from there on: what the history has behind the snapshot's events, from the plain
+/// fold's state behind them on. That holds whenever it was saved, unless its digest is that of other bytes, too.
+pub fn snapshots_begin_parts()
+    ensures { SnapshotsBeginParts }
 {}
