@@ -77,7 +77,7 @@ class Snapshots:
         at = chance.choice([kept.last, chance.randint(kept.first, kept.last), *[number + chance.choice([0, 0, 1]) for number in self.files]])
         at = min(at, kept.last)
         seen = begun_at(kept, self.contents, self.files, at)
-        self.tally["debug with snapshots", "from a snapshot" if seen is not kept else "from the first state"] += 1
+        self.tally["begin of a session", "from a snapshot" if seen is not kept else "from the first state"] += 1
         pages = self.beside.case.geometry.pages
         looks = [drawn_look(chance, (at, 0), pages, is_event=False) for _ in range(2)]
         asked = DebuggedCase(b"", first_looks=looks, settings=chance.sample(SETTINGS, chance.randrange(3)), at=at, is_acknowledged=chance.random() < 0.3)
