@@ -34,6 +34,7 @@ from cases.nested import NestedCase
 from cases.profiled import ProfilesCase, difference_of_profiles
 from cases.raced import RacedCase, difference_of_raced
 from cases.schedules import SchedulesCase, difference_of_schedules
+from cases.snapshots import SnapshotsCase, difference_of_snapshots
 from cases.stepped import SteppedCase, difference_of_stepped
 from cases.streams import joined
 from cases.timed import TimedCase, difference_of_timed
@@ -345,7 +346,7 @@ OF_DISK_COUNTED = {LivesCase: difference_of_stops, TracedCase: difference_of_fat
 OF_FOLDER_COUNTED = {
     Case: difference_of_lives, HaltsCase: difference_of_halts, InputsCase: difference_of_inputs, MixedCase: difference_of_mixed,
     DrivesCase: difference_of_drives, ImagesCase: difference_of_images, SchedulesCase: difference_of_schedules,
-    BesideCase: difference_of_beside, KeptCase: difference_of_kept,
+    BesideCase: difference_of_beside, KeptCase: difference_of_kept, SnapshotsCase: difference_of_snapshots,
 }
 
 

@@ -4,6 +4,7 @@ from shared.instructions import CREATE, GETC, JOIN, LOCK, PUTC, SLEEP_UNTIL, UNL
 MASK = 0xFFFFFFFF
 ALPHABET = b"ABCDEFGHIJKLMNOPQRSTUVWXYZ\n"
 LETTERS = 4  # threads that put a letter each, in any order
+CONTENDERS = 3  # threads that put their letters again and again
 CROWD = 6  # threads whose letters come in more orders than have rows
 
 
@@ -150,6 +151,36 @@ def letters(end=Program.exit):
     end(program)
     program.label("letter")
     program.call(PUTC)
+    program.returns()
+    return program.image()
+
+
+def contending(rounds):
+    """Threads that add to a word under a mutex and to another one without it, and put a letter, so many times (2^32, if none); then it ends."""
+    program = Program()
+    for number in range(CONTENDERS):
+        program.address(10, "contend")
+        program.number(11, ord("a") + number)
+        program.number(12, 0x8000 + 0x1000 * number)
+        program.call(CREATE)
+    for number in range(CONTENDERS):
+        program.number(10, 2 + number)
+        program.call(JOIN)
+    program.exit()
+    program.label("contend")  # with the mutex at 3000, and the words at 3010 and 3020
+    program.addi(13, 10, 0)
+    program.constant(8, rounds)
+    program.lui(9, 3)
+    program.label("round")
+    for call, offset in ((LOCK, 0x10), (UNLOCK, 0x20)):
+        program.addi(10, 9, 0)
+        program.call(call)
+        program.addi(5, 9, offset)
+        program.load_word(6, 5)
+        program.addi(6, 6, 1)
+        program.store_word(6, 5)
+    program.put(13)
+    count_down(program, 8, "round")
     program.returns()
     return program.image()
 

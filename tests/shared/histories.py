@@ -27,6 +27,12 @@ def monitor(command):
     return f"qRcmd,{command.encode().hex()}"
 
 
+def answers_in(said):
+    """The payloads that a session of `ckrt debug` answered, with what is told on the console as text."""
+    payloads = [payload.decode() for payload in re.findall(rb"\$([^#]*)#", said)]
+    return [bytes.fromhex(it[1:]).decode() if re.fullmatch(r"O([0-9a-f]{2})+", it) else it for it in payloads]
+
+
 def packets(pc, last):
     """What a session is asked: threads, registers, memory, motions both ways, with a breakpoint, a watch and a limit, and another way on."""
     third, half = last // 3, last // 2

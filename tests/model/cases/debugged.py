@@ -192,6 +192,11 @@ def outcome_at(case):
     recording, fault = recording_of(case.contents)
     if fault or not recording.first <= case.at <= recording.whole:
         return none_begun(fault.fault if fault else "ckrt: Range")
+    return outcome_in(case, recording)
+
+
+def outcome_in(case, recording):
+    """Where the recorded run has the event at which the session begins."""
     machine = recording.made_up_to(Visits([], (recording.first, case.at)), None, case.at)
     shown = shown_at_first(machine, recording.events[case.at - recording.first:])
     know(case, recording.machine, recording.events)
@@ -219,8 +224,8 @@ def signs_of(case, heard):
     return "+" * (heard if case.is_acknowledged else 1)
 
 
-def outcome_of_program(ckrt, case, path):
-    words = [ckrt, "debug", path, *([] if case.at is None else ["--at", str(case.at)])]
+def outcome_of_program(ckrt, case, path, option=()):
+    words = [ckrt, "debug", *option, path, *([] if case.at is None else ["--at", str(case.at)])]
     done = subprocess.run(words, input=b"".join(map(frame, packets_of(case))), capture_output=True, timeout=TIME_LIMIT)
     signs = re.sub(r"\$[^#]*#..", "", done.stdout.decode())
     *_, line, fault = ["", "", *done.stderr.decode().splitlines()]

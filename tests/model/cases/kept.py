@@ -204,14 +204,20 @@ class Keeping(Driven):
             return 1, [Undriven(str(fault), self.beside.path)]
 
 
-def difference_of_kept(ckrt, case, folder, tally, count_life):
-    """None, or in a few words where the two differ."""
+def kept_behind(ckrt, case, folder, tally, count_life):
+    """None, or in a few words where the two differ behind a step; and the history."""
     keeping = Keeping(ckrt, case, folder, tally, count_life)
     if case.is_made:
         keeping.made_by(case.image)
     for number, step in enumerate(case.steps, 1):
         difference = step.on(keeping)
         if difference is not None:
-            return f"step {number} ({str(step)[:300]}): {difference}"
+            return f"step {number} ({str(step)[:300]}): {difference}", keeping.beside
         keeping.beside.note(keeping.disk)
-    return keeping.beside.difference_of_looks(STRETCHES)
+    return None, keeping.beside
+
+
+def difference_of_kept(ckrt, case, folder, tally, count_life):
+    """None, or in a few words where the two differ."""
+    difference, beside = kept_behind(ckrt, case, folder, tally, count_life)
+    return difference or beside.difference_of_looks(STRETCHES)

@@ -35,6 +35,7 @@ from cases.rounds import rounds_case
 from cases.saved_disks import ChangedArea, asks, serve_and_save, stopped_disk, with_checkpoints
 from cases.sharers import PartSharer, Sharer
 from cases.schedules import schedules_case
+from cases.snapshots import snapshots_case
 from cases.stepped import stepped_case
 from cases.streams import joined, last_lines, malformed_line, mangled, random_lines, with_long_runs
 from cases.timed import timed_case
@@ -267,7 +268,7 @@ KINDS = {
     "lived": of_guests(Living, lived_case, 1), "timed": timed_case, "raced": raced_case, "checked": checked_case, "many": many_case,
     "words": words_case, "drives": of_guest(drives_case), "halts": of_guest(halts_case),
     "inputs": of_guest(inputs_case), "images": of_guest(images_case), "schedules": of_guest(schedules_case), "mixed": of_guest(mixed_case), "rounds": rounds_case,
-    "beside": of_guest(beside_case), "kept": of_guest(kept_case),
+    "beside": of_guest(beside_case), "kept": of_guest(kept_case), "snapshots": of_guest(snapshots_case),
 }
 
 

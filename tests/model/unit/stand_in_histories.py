@@ -1,17 +1,15 @@
 """The word `history` of a `ckrt` made of the model, with `--part`, its `calls --history` and `inspect --history`, and what keeps a history while it drives;
 and wrong ones of these, which the driver has to find."""
-from copy import deepcopy
 from dataclasses import replace
 from pathlib import Path
 
 from cases.damage import batch
 from cases.histories import is_turned
-from model.beside import FIELDS, MARK, KeptHistory, Unkept, begun_from, is_free, lacking, listing_of_kept, part_of, read_front, read_history, recorded_by
-from model.devices import MemoryDisk
+from model.beside import MARK, KeptHistory, Unkept, begun_from, is_free, lacking, listing_of_kept, part_of, read_front, read_history, recorded_by
 from model.feeding import Undriven
-from model.layout import BATCH_LIMIT, CLOSED, OPEN, SUPERBLOCK, SUPERBLOCK_AT, Geometry, Header, write_contents, write_gate
+from model.layout import BATCH_LIMIT, CLOSED, OPEN, SUPERBLOCK_AT
 from model.listing import OutOfRange
-from model.tables import encode_tables
+from model.snapshots import bytes_without_events
 
 
 def batches_of(events):
@@ -54,14 +52,7 @@ def history(path, option=None, disk=None, lacks=lacking, free=is_free, span=lamb
 
 def bytes_of_part(part):
     """With its state in area 0, and its events in the long journal."""
-    contents = bytearray([OPEN]) + bytes(SUPERBLOCK_AT - 1) + MARK + part.fields
-    geometry, tables = Geometry(*SUPERBLOCK.unpack_from(contents, SUPERBLOCK_AT)[2:]), encode_tables(part.machine, b"")
-    contents += bytes(geometry.size - len(contents))
-    disk, memory = MemoryDisk(contents), deepcopy(part.machine.memory)
-    memory.dirty[0] = set(range(1, geometry.pages))
-    write_contents(disk, geometry, 0, Header(1, part.first, 0, len(tables)), tables, memory)
-    write_gate(disk, geometry.area_at(0), OPEN)
-    return bytes(contents) + b"".join(batches_of(part.events)) + b"\0"
+    return bytes_without_events(part) + b"".join(batches_of(part.events)) + b"\0"
 
 
 def part_of_history(path, *options, cut=part_of, free=is_free, form=bytes_of_part):

@@ -22,7 +22,7 @@ FIRST = {
     **dict.fromkeys(["feeding", "driven"], "feeding"), **dict.fromkeys(["call_lines", "recorded", "compare"], "call_lines"),
     **dict.fromkeys(["clocks", "accesses", "orders", "races", "other_rules"], "races"), **dict.fromkeys(["stretches", "timelines", "pictures"], "timelines"),
     "hunts": "hunts", **dict.fromkeys(["raced", "race_rows"], "raced"), "stubs": "stubs",
-    **dict.fromkeys(["begun", "debugged", "damage", "histories", "older_areas"], "begun"), "beside": "beside", "kept": "kept",
+    **dict.fromkeys(["begun", "debugged", "damage", "histories", "older_areas"], "begun"), "beside": "beside", "kept": "kept", "snapshots": "snapshots",
     **dict.fromkeys(["motions", "moved", "stepped"], "motions"), **dict.fromkeys(["profiles", "profiled"], "profiles"),
     **dict.fromkeys(["columns", "crowded"], "columns"), **dict.fromkeys(["stories", "lived"], "stories"), "timed": "timed",
     **dict.fromkeys(["mistyped", "mistakes"], "mistyped"), "words": "words", "glances": "races",
@@ -30,7 +30,7 @@ FIRST = {
     **dict.fromkeys(["heap", "checks"], "checks"), "checked": "checked", **dict.fromkeys(["bits", "values", "heaped"], "values"), "many": "many", "images": "images", "schedules": "schedules",
     **dict.fromkeys(["layout", "listing", "switches", "formats"], "programs"),
 }
-TESTS = ["plans", "schedules", "rounds", "feeding", "checked", "calls", "call_lines", "beside", "kept", "races", "timelines", "hunts", "stubs", "mistyped", "begun", "motions", "profiles",
+TESTS = ["plans", "schedules", "rounds", "feeding", "checked", "calls", "call_lines", "beside", "kept", "snapshots", "races", "timelines", "hunts", "stubs", "mistyped", "begun", "motions", "profiles",
          "columns", "programs", "beneath", "cycles", "checks", "values", "many", "images", "stories", "timed", "raced", "keys", "words", "long_runs", "listings", "rows", "tables", "texts", "fates", "lives", "stops"]
 
 

@@ -1,6 +1,26 @@
 """Wrong models of histories beside disks: of what their bytes have recorded, what they lack of a disk, which files are free, and what a drive keeps."""
 
 WRONG = {
+    "model/snapshots.py": [
+        ("LEADING, DIGEST = slice(72, 80)", "LEADING, DIGEST = slice(64, 72)"),
+        ('len(leading).to_bytes(8, "little") +', 'len(leading).to_bytes(8, "big") +'),
+        ("kept.last - sum(map(len, batches)), {}", "kept.first, {}"),
+        ("(3 + sum(len(event", "(4 + sum(len(event"),
+        ("        lengths[count] = size\n", "        lengths[count] = size + 1\n"),
+        ("for batch in [[], *batches]:", "for batch in batches:"),
+        ("FRONT <= length <= len(contents) and", "length <= len(contents) and"),
+        ("FRONT <= length <= len(contents) and sha", "FRONT <= length and sha"),
+        (" and sha256(contents[:length]).digest() == snapshot[DIGEST]", ""),
+        ("return saved if is_own else None", "return saved"),
+        ("return saved if is_own else None", "return None"),
+        ("if number <= at), default", "if number < at), default"),
+        ("if number <= at), default", "), default"),
+        ("nearest = max((number", "nearest = min((number"),
+        ("None if nearest is None else saved_by(snapshots[nearest], contents)", "next((it for n in sorted(snapshots, reverse=True) if n <= at and (it := saved_by(snapshots[n], contents))), None)"),
+        ("kept.events[saved.first - kept.first:])", "kept.events[saved.first:])"),
+        ("saved.first, saved.machine, kept.events", "saved.first, kept.machine, kept.events"),
+        ("self.first, self.checkpoint, self.whole, self.is_misled = kept.first, kept.first", "self.first, self.checkpoint, self.whole, self.is_misled = 0, kept.first"),
+    ],
     "model/beside.py": [
         ("FIELDS = slice(20, 72)", "FIELDS = slice(32, 72)"),
         ("FIELDS = slice(20, 72)", "FIELDS = slice(20, 32)"),
