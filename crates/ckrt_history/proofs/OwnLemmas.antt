@@ -19,7 +19,7 @@ use Rattle.ckrt_look_recording.specs.Recording.{Recorded}
 use Rattle.ckrt_history.specs.Front.{front_of}
 use Rattle.ckrt_history.specs.History.{HasHistory, long_chain, with_batches}
 use Rattle.ckrt_history.specs.Parting.{IsPart}
-use Rattle.ckrt_history.specs.Snapshots.{DontCollide, IsOwn, IsSavedBehind, SavedState, SnapshotsBeginParts, from_snapshot, gate_at}
+use Rattle.ckrt_history.specs.Snapshots.{DontCollide, IsOwn, IsSavedBehind, SavedAreOwn, SavedState, SnapshotsBeginParts, from_snapshot, gate_at}
 use Rattle.ckrt_history.proofs.GrowingLemmas.{front_stays, is_here, with_chain}
 use Rattle.ckrt_history.proofs.HistoryLemmas.{front_once, recorded_once, same_chain}
 
@@ -139,3 +139,11 @@ module _ (saved now : List ℕ) (r₀ r : Recorded) (s : SavedState) (by : IsSav
 
 pub snapshots_begin_parts : SnapshotsBeginParts
 snapshots_begin_parts saved now r₀ r s by size has own apart = begins_part saved now r₀ r s by size has own apart
+
+pub saved_own : SavedAreOwn
+saved_own whole image r count state saved has accepted first start = (
+  record { first = count; start = state; bytes = gate_at saved.place; digest = saved.digest },
+  saved.is,
+  record { has = has; accepted = accepted; place = saved.place; ends = saved.ends; bytes = refl; digest = saved.is_digest; first = first; start = start },
+  record { place = saved.place; ends = saved.ends; within = omega arith; digest = sym saved.is_digest },
+)

@@ -208,3 +208,11 @@ SnapshotsBeginParts =
     → length now ≡ length saved → HasHistory now r → IsOwn now s
     → DontCollide (take s.bytes now) (take s.bytes saved)
     → IsPart (record { from = s.first; to = None }) r (from_snapshot s r)
+
+-- What was saved of a history that had just these events then is the history's own.
+abbrev pub SavedAreOwn : Type 0
+SavedAreOwn =
+    (whole image : List ℕ) (r : Recorded) (count : ℕ) (state : State)
+    → IsSavedOf whole count state image → HasHistory whole r → AllAccepted r.events r.start
+    → count ≡ end_of r → state ≡ (fold r.events r.start).state
+    → (s : SavedState) × HasSnapshot image s × IsSavedBehind whole r s × IsOwn whole s

@@ -5,7 +5,7 @@ ghost use Rattle.ckrt_history.specs.History.{HasNoFault, IsRecordedOnce};
 ghost use Rattle.ckrt_history.specs.Kept.{BeginsAtEnd, GoesOnTogether, KeepsOn};
 ghost use Rattle.ckrt_history.specs.Many.{BeginBeside, KeepsTheAcknowledged, RecordingsAreTheirs, RunsStandBeside};
 ghost use Rattle.ckrt_history.specs.Parting.{PartsAreTheirs};
-ghost use Rattle.ckrt_history.specs.Snapshots.{SnapshotsBeginParts};
+ghost use Rattle.ckrt_history.specs.Snapshots.{SavedAreOwn, SnapshotsBeginParts};
 
 use ckrt_disk::Disk;
 
@@ -58,6 +58,11 @@ pub fn runs_stand_beside_a_history<D: Disk, O: Disk, K: Disk>()
 /// first ones, and has those that follow, in order.
 pub fn parts_have_the_same_events()
     ensures { PartsAreTheirs }
+{}
+
+/// A snapshot that was saved of a history which had just its events then, with the plain fold's state behind them, is the history's own.
+pub fn saved_snapshots_are_own()
+    ensures { SavedAreOwn }
 {}
 
 /// A snapshot that is a history's own begins just the part of it from there on: what the history has behind the snapshot's events, from the plain
