@@ -47,13 +47,13 @@ const LINES: [[Stage; 3]; 4] = [
 ];
 
 /// A file of zeros that may grow behind what a disk needs.
-fn file<R: Abort + AllocGlobal>(rt: &R) -> MemoryDisk {
+pub fn file<R: Abort + AllocGlobal>(rt: &R) -> MemoryDisk {
     let bytes = vec![in rt.alloc(); 0; SIZE + ROOM].expect(rt, "memory for bytes");
     MemoryDisk::new(rt.alloc(), bytes).expect(rt, "memory for a file")
 }
 
 /// What becomes of a file that has so many bytes. It ensures nothing, so tests that call it are cheap to prove.
-fn joined<R: AllocGlobal, D: Disk, F: Disk>(
+pub fn joined<R: AllocGlobal, D: Disk, F: Disk>(
     rt: &R,
     disk: &mut D,
     file: &mut F,
@@ -66,7 +66,7 @@ fn span<R: AllocGlobal, F: Disk>(rt: &R, file: &mut F) -> Result<Span, HistoryFa
     history_span(rt.alloc(), file)
 }
 
-fn recorded<R: AllocGlobal, F: Disk>(rt: &R, file: &mut F) -> Result<Recording, HistoryFault> {
+pub fn recorded<R: AllocGlobal, F: Disk>(rt: &R, file: &mut F) -> Result<Recording, HistoryFault> {
     read_history(rt.alloc(), file)
 }
 

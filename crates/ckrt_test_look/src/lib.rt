@@ -35,4 +35,6 @@ mod requests;
 #[cfg(test)]
 mod searches;
 #[cfg(test)]
+mod snapshots;
+#[cfg(test)]
 mod tables;
