@@ -6,3 +6,4 @@ mod MakingLemmas
 mod MissingLemmas
 mod PrintLemmas
 mod RunLemmas
+mod NearLemmas

@@ -1,7 +1,8 @@
 //! Reading a history for a look at it: from a snapshot on, where one is taken.
-ghost use Rattle.std.specs.Prelude.{◌≡◌, IfOk, None, OnOk};
+ghost use Rattle.std.specs.Prelude.{◌≡◌, None, Ok};
 ghost use Rattle.ckrt_disk.specs.Frame.{IsOnlyRead};
 ghost use Rattle.ckrt_look_recording.specs.Recording.{recorded_of};
+ghost use Rattle.ckrt_cli_files.specs.Openings.{with_closed};
 ghost use Rattle.ckrt_cli_files.specs.Sources.{GivesSame};
 ghost use Rattle.ckrt_history.specs.Reads.{is_device};
 ghost use Rattle.ckrt_cli_disk.specs.Near.{AnswersFor, BeginsNear, Finds, ReadsNear, ReadsOpened, position_in, with_snapshot_closed};

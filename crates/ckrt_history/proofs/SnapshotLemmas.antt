@@ -1,15 +1,14 @@
 -- What a file has in which a snapshot was saved.
-use Rattle.std.proofs.Common.{◌≡◌, inl, inr, ℕ, ◌+◌, ◌≤◌, ◌<◌, ◌^◌, List, [], ◌++◌, length, take, drop, refl, sym, ◌∙◌, ap, arith, length-append}
+use Rattle.std.proofs.Common.{◌≡◌, inl, inr, ℕ, ◌≤◌, ◌<◌, ◌^◌, List, [], length, take, drop, sym, ◌∙◌, ap, arith, length-append}
 use Rattle.std.proofs.lemmas.List.{append-nil, take_all}
 use Rattle.byteorder.specs.Endian.{little_bytes, little_number}
 use Rattle.byteorder.specs.Numbers.{little_number-reads_back}
-use Rattle.ckrt_machine.specs.Steps.{State}
 use Rattle.ckrt_stored.specs.AreaFields.{HasBytes}
 use Rattle.ckrt_stored.specs.Layout.{number_at}
 use Rattle.ckrt_look_recording.specs.Recording.{Recorded}
 use Rattle.ckrt_history.specs.Excerpts.{IsClosedOrEmpty, IsEmptyPart, IsStateOf, LaidState}
 use Rattle.ckrt_history.specs.History.{HasHistory}
-use Rattle.ckrt_history.specs.Snapshots.{HasSnapshot, IsClosedOrState, SavedState, note_of, saved_with, state_alone}
+use Rattle.ckrt_history.specs.Snapshots.{HasSnapshot, IsClosedOrState, note_of, saved_with, state_alone}
 use Rattle.ckrt_history.proofs.FrontLemmas.{FitsFront, HasFront, config_fits, front_parts}
 use Rattle.ckrt_history.proofs.LaidLemmas.{has_empty}
 
