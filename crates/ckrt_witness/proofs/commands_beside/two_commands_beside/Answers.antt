@@ -1,0 +1,7 @@
+use Rattle.std.proofs.Common.{[]}
+use Rattle.ckrt_witness.proofs.CommandsBesideLemmas.{two_commands}
+use Rattle.ckrt_witness.proofs.commands_beside.two_commands_beside.Goals as goal
+
+pub returns : goal.returns
+returns g c = λ p count twice.
+    two_commands _ g.met.D.Disk.counts_now g.met.D.Disk.readable (c.runs_go_on_beside_a_history.ensures.stand []) p count twice
