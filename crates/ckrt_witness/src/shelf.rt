@@ -138,8 +138,8 @@ impl<'a> Shelf<'a> {
     ) -> Shelf<'a>
         ensures disk { result.disk ≡ Some disk }
         ensures output { result.output ≡ Some output }
-        ensures history { result.history ≡ Some history.file }
-        ensures path { named_by result ≡ Some history.path.now }
+        ensures history { result.history ≡ Some history.entry.file }
+        ensures path { named_by result ≡ Some history.entry.path.now }
         ensures filled { result.filled ≡ None }
     {
         let mut shelf = Shelf::with_output(disk, output);
