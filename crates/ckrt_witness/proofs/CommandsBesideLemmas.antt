@@ -1,15 +1,16 @@
 -- Two runs by their words that keep a history, the second on what a stop behind the first left.
-use Rattle.std.proofs.Common.{◌≡◌, inl, inr, ℕ, List, [], ◌∷◌, Option, Some, None, Result, Ok, Err, refl, sym, ◌∙◌, ap, subst}
+use Rattle.std.proofs.Common.{◌≡◌, ◌≤◌, inl, inr, ℕ, Bool, false, List, [], ◌∷◌, Option, Some, None, Result, Ok, Err, refl, sym, ◌∙◌, ap, subst, arith}
 use Rattle.std.specs.Prelude.{IfSome}
 use Rattle.ckrt_disk.specs.declared.disk.Disk.{Ghosts}
 use Rattle.ckrt_drive.specs.Stages.{GoesBySteps, Stage, stage}
-use Rattle.ckrt_drive.specs.Together.{IsLeftSince}
+use Rattle.ckrt_drive.specs.Lengthening.{IsLengthened}
+use Rattle.ckrt_drive.specs.Together.{IsLeftSince, Past}
 use Rattle.ckrt_drive.specs.declared.options.Options.{Options}
 use Rattle.ckrt_look_recording.specs.Recording.{Recorded}
 use Rattle.ckrt_schedule.specs.declared.next.ScheduleEnd.{ScheduleEnd}
 use Rattle.ckrt_stored.specs.Programs.{Program, RecoversToStart}
 use Rattle.ckrt_history.specs.History.{HasHistory}
-use Rattle.ckrt_history.specs.Many.{Three}
+use Rattle.ckrt_history.specs.Many.{IsReadyingRun, RunsStandBeside, StandBeside, Three}
 use Rattle.ckrt_history.specs.declared.keeping_fault.KeepingFault.{KeepingFault}
 use Rattle.ckrt_history.specs.declared.kept.KeptHistory.{KeptHistory}
 use Rattle.ckrt_history.specs.declared.kept.Unkept.{Unkept}
@@ -20,19 +21,21 @@ use Rattle.ckrt_cli_files.specs.Sources.{Gives}
 use Rattle.ckrt_cli_files.specs.declared.output.OpenedOutput.{OpenedOutput}
 use Rattle.ckrt_cli_reports.specs.declared.fault.JobFault.{JobFault}
 use Rattle.ckrt_cli_disk.specs.Driving.{GetsHistory, Way, unfed, with_intake}
-use Rattle.ckrt_cli_disk.specs.Equipping.{Equips, EquipsSo}
+use Rattle.ckrt_cli_disk.specs.Equipping.{Equips, EquipsSo, OpensKept}
 use Rattle.ckrt_cli_disk.specs.Feeding.{Supplies}
+use Rattle.ckrt_cli_disk.specs.Noting.{asked_schedule}
 use Rattle.ckrt_cli_disk.specs.declared.equipping.Beside.{Beside}
 use Rattle.ckrt_cli_disk.specs.declared.equipping.Equipped.{Equipped}
 use Rattle.ckrt_cli_disk.specs.declared.feeding.Intake.{Intake}
 use Rattle.ckrt_cli_disk.specs.declared.feeding.Supplied.{Supplied}
 use Rattle.ckrt_cli.specs.Coming.{Came}
 use Rattle.ckrt_cli.specs.Commands.{Paths, Run, drive_in, of_words}
-use Rattle.ckrt_cli.specs.HistoryRuns.{GoOnBeside, History, IsDriven, IsKeptBeside, IsKeptBy, IsSound, LeavesBeside, LeavesBy, LeavesDriving, RunBeside, RunsStandOn, WithHistory, fed_of, first_of, found_by, history_of, last_of, opening_before, opening_in, opening_of, stages_of, with_history}
+use Rattle.ckrt_cli.specs.HistoryRuns.{GoOnBeside, History, IsDriven, IsKeptBeside, IsKeptBy, IsSound, LeavesBeside, LeavesBy, LeavesDriving, RunBeside, RunsKeepHistories, RunsKeepTheAcknowledged, RunsStandOn, WithHistory, fed_of, first_of, found_by, history_of, last_of, opening_before, opening_in, opening_of, stages_of, with_history}
 use Rattle.ckrt_cli.specs.Performing.{Reach, means_in}
-use Rattle.ckrt_cli.specs.Promise.{Drove, drove}
+use Rattle.ckrt_cli.specs.Promise.{Drove, LeaveItLonger, drove}
 use Rattle.ckrt_cli.specs.Runs.{way_of_run}
-use Rattle.ckrt_witness.specs.CommandsBeside.{AsksHistory, CommandsWitness, DroveKeeping, RanBeside, RanTwice}
+use Rattle.ckrt_witness.specs.Beside.{three}
+use Rattle.ckrt_witness.specs.CommandsBeside.{AsksHistory, CommandsWitness, DroveKeeping, KeepsWitness, RanBeside, RanTwice}
 use Rattle.ckrt_witness.proofs.BesideLemmas.{CountsNow, Reads}
 use Rattle.ckrt_witness.proofs.CameLemmas.{Facts, came_by_words}
 use Rattle.ckrt_witness.proofs.RunsLemmas.{closed_before, found_there, history_before, no_more, was_read}
@@ -44,7 +47,15 @@ all_some P all (Some x) = all x
 
 -- WITHOUT AN INPUT
 
--- nothing is made longer
+-- a disk comes as it is
+comes_as_it_is : {D : Type 0} (d : Ghosts D) (gives : Gives D) (input : Option (List ℕ)) → input ≡ None → (from : Option ℕ) (looked : D) (before asked : Openings D) (it : Supplied D) → Supplies d gives input from looked before asked (Ok it) → it.disk ≡ looked
+comes_as_it_is {D = D} d gives None is from looked before asked it supplies =
+    let found : ◌≡◌ {A = Result (Supplied D) JobFault} (Ok it) (Ok (record { disk = looked; intake = None })) = supplies.0 in
+    let whole : it ≡ record { disk = looked; intake = None } = cc in
+    ap (λ (q : Supplied D). q.disk) whole
+comes_as_it_is d gives (Some path) is from looked before asked it supplies = let no : ◌≡◌ {A = Option (List ℕ)} (Some path) None = is in absurd (cc)
+
+-- and nothing is made longer
 not_longer : {D : Type 0} (d : Ghosts D) (gives : Gives D) (input : Option (List ℕ)) → input ≡ None → (from : Option ℕ) (looked : D) (before asked : Openings D) (it : Supplied D) → Supplies d gives input from looked before asked (Ok it)
     → (other : D) → asked.lengthened ≡ other ∷ before.lengthened → ⊥
 not_longer d gives None is from looked before asked it supplies other more = no_more other before.lengthened asked.lengthened (ap (λ (q : Openings _). q.lengthened) supplies.1) more
@@ -66,19 +77,38 @@ module _ {D : Type 0} (d : Ghosts D) where
   abbrev Kept : Type 0
   Kept = KeptHistory D d
 
-  -- it was opened
-  by_made : (noted : Supplied D) (it : Equipped D d) (asked new : Openings D) (made : Result Kept (Unkept D)) → EquipsSo noted asked new (Ok it) made → (history : Kept) × (it.beside.history ≡ Some history)
-  by_made noted it asked new (Err unkept) ends = let no = ends.0 in absurd (cc)
-  by_made noted it asked new (Ok history) ends =
-      let beside : Beside D d = record { intake = noted.intake; history = Some history } in
-      let found : ◌≡◌ {A = Result (Equipped D d) JobFault} (Ok it) (Ok (record { disk = noted.disk; beside = beside })) = ends.0 in
-      let whole : it ≡ record { disk = noted.disk; beside = beside } = cc in
-      (history, ap (λ (q : Equipped D d). q.beside.history) whole)
+  -- it was opened so, of this file, for a disk
+  record IsBeside (start : D) (it : Equipped D d) (x : D) : Type 0 where
+    pub history : Kept
+    pub is : it.beside.history ≡ Some history
+    pub file : D
+    pub same : file ≡ x
+    pub bytes : ℕ
+    pub opens : OpensKept d bytes start it.disk file (Ok history)
 
-  is_beside : (gives : Gives D) (path : List ℕ) (named : Option (List ℕ)) → named ≡ Some path → (start : Supplied D) (old new : Openings D) (it : Equipped D d) → Equips d gives named start old new (Ok it) → (history : Kept) × (it.beside.history ≡ Some history)
-  is_beside gives path None is start old new it equips = let no : ◌≡◌ {A = Option (List ℕ)} None (Some path) = is in absurd (cc)
-  is_beside gives path (Some other) is start old new it (inl lacks) = let no = lacks.is in absurd (cc)
-  is_beside gives path (Some other) is start old new it (inr opens) = by_made _ it _ new opens.equips.made opens.equips.ends
+  by_made : (start disk file x : D) (bytes : ℕ) (intake : Option (Intake D)) (it : Equipped D d) (asked new : Openings D) → file ≡ x → (made : Result Kept (Unkept D)) → OpensKept d bytes start disk file made
+      → EquipsSo (record { disk = disk; intake = intake }) asked new (Ok it) made → IsBeside start it x
+  by_made start disk file x bytes intake it asked new same (Err unkept) opens ends = let no = ends.0 in absurd (cc)
+  by_made start disk file x bytes intake it asked new same (Ok history) opens ends =
+      let beside : Beside D d = record { intake = intake; history = Some history } in
+      let found : ◌≡◌ {A = Result (Equipped D d) JobFault} (Ok it) (Ok (record { disk = disk; beside = beside })) = ends.0 in
+      let whole : it ≡ record { disk = disk; beside = beside } = cc in
+      record {
+        history = history;
+        is = ap (λ (q : Equipped D d). q.beside.history) whole;
+        file = file;
+        same = same;
+        bytes = bytes;
+        opens = subst (λ (q : D). OpensKept d bytes start q file (Ok history)) (sym (ap (λ (q : Equipped D d). q.disk) whole)) opens;
+      }
+
+  is_beside : (gives : Gives D) (path : List ℕ) (x : D) → ((o : OpenedOutput D) → gives.Outputs path o → o.output ≡ x) → (named : Option (List ℕ)) → named ≡ Some path → (start : Supplied D) (old new : Openings D) (it : Equipped D d)
+      → Equips d gives named start old new (Ok it) → IsBeside start.disk it x
+  is_beside gives path x files None is start old new it equips = let no : ◌≡◌ {A = Option (List ℕ)} None (Some path) = is in absurd (cc)
+  is_beside gives path x files (Some other) is start old new it (inl lacks) = let no = lacks.is in absurd (cc)
+  is_beside gives path x files (Some other) is start old new it (inr opens) =
+      let same : other ≡ path = cc in
+      by_made start.disk opens.equips.disk opens.output.output x opens.output.length start.intake it _ new (files opens.output (subst (λ (q : List ℕ). gives.Outputs q opens.output) same opens.is_opened)) opens.equips.made opens.equips.opens opens.equips.ends
 
   -- an input has no say in it
   way_history : (way : Way d) (intake : Option (Intake D)) (input : Option D) → (with_intake d way intake input).history ≡ way.history
@@ -94,10 +124,10 @@ module _ {D : Type 0} (d : Ghosts D) where
   -- a drive kept it
   module _ {O : Type 0} {o : Ghosts O} {options : Options} {IsRead : Type 0} {file : Option (List ℕ)} {x y : Stage d o} (steps : GoesBySteps options IsRead file x y) (told : Result (Option ScheduleEnd) KeepingFault) where
     is_kept : (history : Option Kept) (it : Kept) → history ≡ Some it → (kept : Option D) (gets : GetsHistory steps history kept told)
-        → (h : WithHistory steps history told) × (with_history steps history kept told gets ≡ Some h) × (kept ≡ Some h.end)
+        → (h : WithHistory steps history told) × (with_history steps history kept told gets ≡ Some h) × (kept ≡ Some h.end) × (it ≡ h.it)
     is_kept None it is kept gets = let no : ◌≡◌ {A = Option Kept} None (Some it) = is in absurd (cc)
     is_kept (Some other) it is None gets = absurd gets
-    is_kept (Some other) it is (Some end) gets = (record { it = other; is = refl; end = end; keeps = gets }, refl, refl)
+    is_kept (Some other) it is (Some end) gets = (record { it = other; is = refl; end = end; keeps = gets }, refl, refl, cc)
 
 -- and gave it back
 given_back : {D : Type 0} (asked : Openings D) (history input : Option D) (end left : D) (more : List D) → history ≡ Some end → (with_closed_input (with_closed_history asked history) input).closed_history ≡ left ∷ more → end ≡ left
@@ -171,14 +201,14 @@ module _ {S D W : Type 0} {d : Ghosts D} (reach : S → Reach d W) (words : List
         cc
 
     -- its history
-    opened_for : (history : Kept d) × (came.run.beside.history ≡ Some history)
-    opened_for = is_beside d it.others path j.history asked.keeps _ came.asked came.joined (record { disk = came.run.start; beside = came.run.beside }) came.equips
+    opened_for : IsBeside d came.noted (record { disk = came.run.start; beside = came.run.beside }) x.file
+    opened_for = is_beside d it.others path x.file ran.gives.files j.history asked.keeps (record { disk = came.noted; intake = came.intake }) came.asked came.joined (record { disk = came.run.start; beside = came.run.beside }) came.equips
 
-    kept_by : (h : History came.run) × (history_of came.run ≡ Some h) × ((way_of_run came.run).kept ≡ Some h.end)
+    kept_by : (h : History came.run) × (history_of came.run ≡ Some h) × ((way_of_run came.run).kept ≡ Some h.end) × (opened_for.history ≡ h.it)
     kept_by =
         let r = came.run in
-        is_kept d r.drives.by_steps r.drives.told (way_of_run r).history opened_for.0
-        (way_history d (unfed r.options r.beside.history r.left.history) r.beside.intake r.left.input ∙ opened_for.1)
+        is_kept d r.drives.by_steps r.drives.told (way_of_run r).history opened_for.history
+        (way_history d (unfed r.options r.beside.history r.left.history) r.beside.intake r.left.input ∙ opened_for.is)
         (way_of_run r).kept r.drives.gets
 
     -- and what it left of that
@@ -234,10 +264,70 @@ module _ {S D W : Type 0} {d : Ghosts D} (reach : S → Reach d W) (words : List
           subst (λ o. LeavesBy (opening_in beside) o (found_by beside) next) (sym drove_there)
           (subst (λ h. LeavesDriving drive h x.file next) (sym kept_by.1) (left_driving next disk output file))
 
+    -- THE LAW OF SUCH A RUN
+
+    module _ (counts : CountsNow d) (reads : Reads d) (before : LeaveItLonger d) (on : RunsStandBeside d d d) where
+      as_it_is : (old new : D) → d.moment old ≤ d.moment new → IsLeftSince d old new new
+      as_it_is old new later = record { images = λ image may. counts new (d.moment old) image (sound new).honest later may; inside = (sound new).inside }
+
+      itself : (disk other : D) → other ≡ disk → IsLeftSince d disk disk other
+      itself disk other same = subst (λ (q : D). IsLeftSince d disk disk q) (sym same) (as_it_is disk disk (omega arith))
+
+      -- the disk was made ready for it
+      longer : IsLengthened d x.disk came.noted
+      longer =
+          let read = before.reading came.found came.looked came.looked false came.sized (sound came.looked).honest (as_it_is came.found came.looked (came.sized.any_moment (sound came.looked).honest).later) in
+          let noted = before.noting (asked_schedule j) came.supplied came.noted came.noted (Ok tt) came.notes (sound came.noted).honest (as_it_is came.supplied came.noted (came.notes.any_moment (sound came.noted).honest).later) in
+          let same = comes_as_it_is d it.others j.input asked.without_input j.input_from came.looked came.before came.asked (record { disk = came.supplied; intake = came.intake }) came.supplies in
+          subst (λ (q : D). IsLengthened d q came.noted) driven.readied.found (before.through came.found came.looked came.noted read (subst (λ (q : D). IsLengthened d q came.noted) same noted))
+
+      abbrev readied : Three D D D
+      readied = three came.noted came.run.output opened_for.file
+
+      readying : IsReadyingRun d d d x readied
+      readying = record {
+        disk = longer;
+        output_honest = (sound x.output).honest;
+        output = itself x.output came.run.output driven.found_output;
+        file_honest = (sound x.file).honest;
+        file = itself x.file opened_for.file opened_for.same;
+      }
+
+      -- and stands as before
+      stands : (h : Past) → StandBeside d d d h x → (now : Past) × StandBeside d d d now readied
+      stands h stand = let all = on h x (readied ∷ []) stand (inl readying, tt) in (all.0, all.2)
+
+      module _ (keep : RunsKeepHistories d d) (acknowledge : RunsKeepTheAcknowledged d d) where
+        keeps : (h : Past) → StandBeside d d d h x → (next : Three D D D) → IsLeftSince d end.disk end.disk next.disk → IsLeftSince d end.output end.output next.output → IsLeftSince d end.file end.file next.file → KeepsWitness came.run kept_by.0
+        keeps h stand next disk output file =
+            let r = came.run in
+            let there = stands h stand in
+            let opens = subst (λ (q : KeptHistory D d). OpensKept d opened_for.bytes came.noted r.start opened_for.file (Ok q)) kept_by.3 opened_for.opens in
+            let stop = left_driving counts reads next disk output file in
+            record {
+              before = there.0;
+              noted = came.noted;
+              file = opened_for.file;
+              bytes = opened_for.bytes;
+              opens = opens;
+              recovered = came.recovered;
+              disk = sound r.after.disk;
+              output = sound r.end;
+              end = sound kept_by.0.end;
+              read = driven.input_honest;
+              holds = came_here.2.holds;
+              stand = there.1;
+              at = at_end;
+              left = next;
+              stop = stop;
+              keep = keep r kept_by.0 came.noted opened_for.file opened_for.bytes opens came.recovered (sound r.after.disk).honest (sound r.end).honest (sound kept_by.0.end).honest driven.input_honest at_end next stop;
+              acknowledged = acknowledge there.0 r kept_by.0 came.noted opened_for.file opened_for.bytes opens came.recovered (sound r.after.disk) (sound r.end) (sound kept_by.0.end) driven.input_honest came_here.2.holds there.1;
+            }
+
 -- BOTH
 
-pub two_commands : {S D W : Type 0} {d : Ghosts D} (reach : S → Reach d W) → CountsNow d → Reads d → RunsStandOn reach → (p : Program) (count : ℕ) → RanTwice reach p count → CommandsWitness reach count
-two_commands {D = D} {d = d} reach counts reads law p count t =
+pub two_commands : {S D W : Type 0} {d : Ghosts D} (reach : S → Reach d W) → CountsNow d → Reads d → RunsStandOn reach → LeaveItLonger d → RunsStandBeside d d d → RunsKeepHistories d d → RunsKeepTheAcknowledged d d → (p : Program) (count : ℕ) → RanTwice reach p count → CommandsWitness reach count
+two_commands {D = D} {d = d} reach counts reads law before stand_on keep acknowledge p count t =
     let first = beside reach t.words t.path t.asked t.sound t.x t.end t.one in
     let second = beside reach t.words t.path t.asked t.sound t.next t.whole t.other in
     let on : GoOnBeside p first (second ∷ []) t.last = record {
@@ -253,6 +343,7 @@ two_commands {D = D} {d = d} reach counts reads law p count t =
         leaves reach t.words t.path t.asked t.sound t.next t.whole t.other counts reads t.last (again d counts reads t.whole.disk t.last.disk t.behind.disk) (again d counts reads t.whole.output t.last.output t.behind.output) (again d counts reads t.whole.file t.last.file t.behind.file),
       );
     } in
+    let stand = law (paths reach t.words t.path t.asked t.sound) t.path p first (second ∷ []) t.last on in
     record {
       paths = paths reach t.words t.path t.asked t.sound;
       path = t.path;
@@ -261,10 +352,12 @@ two_commands {D = D} {d = d} reach counts reads law p count t =
       second = second;
       last = t.last;
       on = on;
-      stand = law (paths reach t.words t.path t.asked t.sound) t.path p first (second ∷ []) t.last on;
+      stand = stand;
       left = t.end.file;
       whole = t.whole.file;
       one = came_to_keep reach t.words t.path t.asked t.sound t.x t.end t.one;
       other = came_to_keep reach t.words t.path t.asked t.sound t.next t.whole t.other;
+      keeps = keeps reach t.words t.path t.asked t.sound t.next t.whole t.other counts reads before stand_on keep acknowledge stand.0 stand.2 t.last
+          (again d counts reads t.whole.disk t.last.disk t.behind.disk) (again d counts reads t.whole.output t.last.output t.behind.output) (again d counts reads t.whole.file t.last.file t.behind.file);
       has = t.has;
     }

@@ -33,7 +33,7 @@ its_history s name disk file named there (inr other) = absurd (other.0 named)
 -- what is marked lies within the table
 is_below : (table : List Bool) (i : ℕ) → IsMarked table i → i < length table
 is_below table i marked = elim (cases_lt i (length table)) as (λ _. i < length table) [
-    inl below ↦ below
+  | inl below ↦ below
   | inr past ↦ let no : get_or table i false ≡ false = get_or_past table i false past in absurd (cc)
 ]
 

@@ -1,18 +1,25 @@
 -- What meets the premises of the law of a history beside many runs, from the words on.
-use Rattle.std.specs.Prelude.{◌≡◌, ◌≢◌, ◌≤◌, ℕ, List, [], ◌∷◌, length, None, Some}
+use Rattle.std.specs.Prelude.{◌≡◌, ◌≢◌, ◌≤◌, ℕ, List, [], ◌∷◌, length, None, Some, Ok}
 use Rattle.ckrt_disk.specs.declared.disk.Disk.{Ghosts}
-use Rattle.ckrt_drive.specs.Together.{past}
+use Rattle.ckrt_drive.specs.Stages.{Stage}
+use Rattle.ckrt_drive.specs.Together.{Past, past}
+use Rattle.ckrt_events.specs.declared.event.Event.{Event}
 use Rattle.ckrt_look_recording.specs.Recording.{Recorded}
+use Rattle.ckrt_recovery.specs.Recovered.{IsRecovered}
+use Rattle.ckrt_recovery.specs.Represents.{Represents, acknowledged_of}
 use Rattle.ckrt_stored.specs.Programs.{Program, RecoversToStart}
 use Rattle.ckrt_history.specs.History.{HasHistory}
-use Rattle.ckrt_history.specs.Many.{AllStandBeside, Three}
+use Rattle.ckrt_history.specs.Many.{AllStandBeside, HasJust, IsKeepingRun, StandBeside, StopLeavesBeside, Three}
+use Rattle.ckrt_cli_disk.specs.Driving.{HistoryHolds}
+use Rattle.ckrt_cli_disk.specs.Equipping.{OpensKept}
 use Rattle.ckrt_cli_words.specs.Jobs.{Driving, drive, request_of_words}
 use Rattle.ckrt_cli_files.specs.declared.output.OpenedOutput.{OpenedOutput}
 use Rattle.ckrt_cli_reports.specs.Outside.{Outside}
 use Rattle.ckrt_cli.specs.Commands.{DriveIn, Paths, drive_in}
-use Rattle.ckrt_cli.specs.HistoryRuns.{GoOnBeside, History, IsSound, RunBeside, found_by, history_of}
+use Rattle.ckrt_cli.specs.HistoryRuns.{GoOnBeside, History, IsSound, RunBeside, first_of, found_by, history_of, last_of, stages_of}
 use Rattle.ckrt_cli.specs.Performing.{Reach, RunsWords, Said}
-use Rattle.ckrt_witness.specs.Beside.{AreReopened}
+use Rattle.ckrt_cli.specs.Runs.{ProgramRun, way_of_run}
+use Rattle.ckrt_witness.specs.Beside.{AreReopened, three}
 
 -- words ask for a drive of a disk that is there, without an input, with its output in a file, and with its history in another one, of this path
 pub record AsksHistory (words : List (List ℕ)) (path : List ℕ) : Type 0 where
@@ -79,6 +86,28 @@ pub record RanTwice {S D W : Type 0} {d : Ghosts D} (reach : S → Reach d W) (p
   pub none : (r : Recorded) → HasHistory (d.content x.file) r → ⊥
   pub has : HasEvents (d.content last.file) count
 
+-- A run whose history was opened before it, and kept without a fault: with what stood before, and what a stop left, it meets all premises of the law
+-- of such runs. So it is a run of the law of many, and behind it the history has all events that are acknowledged.
+pub record KeepsWitness {D : Type 0} {d : Ghosts D} (r : ProgramRun d d) (h : History r) : Type 0 where
+  pub before : Past
+  pub noted : D
+  pub file : D
+  pub bytes : ℕ
+  pub opens : OpensKept d bytes noted r.start file (Ok h.it)
+  pub recovered : IsRecovered d r.start r.before
+  pub disk : IsSound d r.after.disk
+  pub output : IsSound d r.end
+  pub end : IsSound d h.end
+  pub read : (way_of_run r).IsRead
+  pub holds : HistoryHolds r.drives.told
+  pub stand : StandBeside d d d before (three noted r.output file)
+  pub at : Stage d d
+  pub left : Three D D D
+  pub stop : StopLeavesBeside (stages_of r h) (first_of r h) at left
+  pub keep : IsKeepingRun d d d (three noted r.output file) left
+  pub acknowledged : (all : List Event) × Represents before.program all r.after
+      × HasJust before.program (acknowledged_of all r.after) (last_of r h)
+
 -- this run came to its drive, which kept its history, and left this file of it
 pub record DroveKeeping {S D W : Type 0} {d : Ghosts D} {reach : S → Reach d W} {f : Paths}
     {path : List ℕ} (r : RunBeside reach f path) (file : D) : Type 0 where
@@ -89,7 +118,7 @@ pub record DroveKeeping {S D W : Type 0} {d : Ghosts D} {reach : S → Reach d W
   pub leaves : history.end ≡ file
 
 -- Two runs with a stop between, for which all premises hold; both came to their drives and kept their history, which has so many events in the end. So
--- whatever each left stands.
+-- whatever each left stands. The second meets the premises of the law of runs that keep a history, too.
 pub record CommandsWitness {S D W : Type 0} {d : Ghosts D} (reach : S → Reach d W) (count : ℕ)
     : Type 0 where
   pub paths : Paths
@@ -105,4 +134,5 @@ pub record CommandsWitness {S D W : Type 0} {d : Ghosts D} (reach : S → Reach 
   pub whole : D
   pub one : DroveKeeping first left
   pub other : DroveKeeping second whole
+  pub keeps : KeepsWitness other.drove.came.run other.history
   pub has : HasEvents (d.content last.file) count

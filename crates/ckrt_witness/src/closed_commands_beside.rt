@@ -22,7 +22,14 @@ use std::process::Abort;
 
 /// The words of both runs: the guest goes round for ever, so each has enough events.
 const WORDS: &[&str] = &[
-    "drive", "d", "--output", "o", "--history", "h", "--events", "2",
+    "drive",
+    "d",
+    "--output",
+    "o",
+    "--history",
+    "h",
+    "--events",
+    "2",
 ];
 
 /// A disk, an output and the file of a history.
