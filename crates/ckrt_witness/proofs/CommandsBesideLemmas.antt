@@ -244,7 +244,7 @@ module _ {S D W : Type 0} {d : Ghosts D} (reach : S → Reach d W) (words : List
       kept = subst (λ o. IsKeptBy (opening_in beside) o (found_by beside)) (sym drove_there) driven;
     }
 
-    came_to_keep : DroveKeeping beside end.file
+    abbrev came_to_keep : DroveKeeping beside end.file
     came_to_keep = record { drove = drive; is = drove_there; history = kept_by.0; keeps = kept_by.1; leaves = its_file }
 
     module _ (counts : CountsNow d) (reads : Reads d) where

@@ -58,12 +58,12 @@ pub record RanBeside {S D W : Type 0} {d : Ghosts D} (reach : S → Reach d W)
   pub closed_output : (more : List D) × (new.openings.closed_output ≡ end.output ∷ more)
   pub closed_history : (more : List D) × (new.openings.closed_history ≡ end.file ∷ more)
 
--- these bytes are a history that has so many events
+-- these bytes are a history that has so many events, or more
 abbrev pub HasEvents : List ℕ → ℕ → Type 0
 HasEvents image count = (r : Recorded) × HasHistory image r × (count ≤ length r.events)
 
 -- Two runs by the same words, from a formatted disk and a file that is no history on; the second on what a stop behind the first left. A stop behind
--- it leaves a history that has events.
+-- it leaves a history that has so many events, or more.
 pub record RanTwice {S D W : Type 0} {d : Ghosts D} (reach : S → Reach d W) (p : Program)
     (count : ℕ) : Type 0 where
   pub words : List (List ℕ)
@@ -117,8 +117,8 @@ pub record DroveKeeping {S D W : Type 0} {d : Ghosts D} {reach : S → Reach d W
   pub keeps : history_of drove.came.run ≡ Some history
   pub leaves : history.end ≡ file
 
--- Two runs with a stop between, for which all premises hold; both came to their drives and kept their history, which has so many events in the end. So
--- whatever each left stands. The second meets the premises of the law of runs that keep a history, too.
+-- Two runs with a stop between, for which all premises hold; both came to their drives and kept their history, which has so many events in the end, or
+-- more. So whatever each left stands. The second meets the premises of the law of runs that keep a history, too.
 pub record CommandsWitness {S D W : Type 0} {d : Ghosts D} (reach : S → Reach d W) (count : ℕ)
     : Type 0 where
   pub paths : Paths

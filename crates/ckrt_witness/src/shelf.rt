@@ -38,7 +38,7 @@ pub struct GivenBack {
     pub history: Option<StoppingDisk>,
 }
 
-/// The disks, whatever path they are asked for by, but the history by its own alone; what was given back last; and the record of all that was asked.
+/// The disks, whatever path they are asked for by, but the history only by its own; what was given back last; and the record of all that was asked.
 #[derive(Drop)]
 pub struct Shelf<'a> {
     guest: Option<&'a [u8]>,

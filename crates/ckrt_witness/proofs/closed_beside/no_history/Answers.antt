@@ -1,4 +1,4 @@
-use Rattle.std.proofs.Common.{◌≡◌, List, ℕ, ◌∙◌, subst}
+use Rattle.std.proofs.Common.{◌∙◌, List, ℕ, subst}
 use Rattle.ckrt_history.specs.History.{HasFault}
 use Rattle.ckrt_history.specs.Reads.{AgreesOnFault}
 use Rattle.ckrt_history.specs.Span.{TellsSpan}
@@ -10,6 +10,4 @@ pub returns : goal.returns
 returns g c = λ r has.
     let looked : HasFault c.memory_disk-looked.result.marked.bytes.items NotAHistory =
     subst (λ (e : HistoryFault). AgreesOnFault e (TellsSpan c.memory_disk-looked.result.marked.bytes.items)) c.in-Err-NotAHistory.field-0-is (c.in-Err-NotAHistory.ensures.exact tt) in
-    let same : c.memory_disk-looked.result.marked.bytes.items ≡ c.fn.zeros.items =
-    c.memory_disk-looked.ensures.content ∙ c.copied.ensures ∙ c.deref.ensures.value in
-    c.histories_are_one.ensures.no_fault c.fn.zeros.items r NotAHistory has (subst (λ (l : List ℕ). HasFault l NotAHistory) same looked)
+    c.histories_are_one.ensures.no_fault _ r NotAHistory has (subst (λ (l : List ℕ). HasFault l NotAHistory) (c.memory_disk-looked.ensures.content ∙ c.copied.ensures ∙ c.deref.ensures.value) looked)
