@@ -6,7 +6,7 @@ use Rattle.ckrt_disk.specs.declared.disk.DeviceFault.{DeviceFault}
 use Rattle.ckrt_disk.specs.declared.disk.Disk.{Ghosts}
 use Rattle.std.specs.Prelude.{is_err, is_some}
 use Rattle.ckrt_drive.specs.declared.options.Options.{Options}
-use Rattle.ckrt_cli_disk.specs.Driving.{DrivesBehindNote, DrivesEquipped, DrivesFound, DrivesInRange, DrivesInto, DrivesLooked, DrivesOpened, DrivesOpenedOutput, DrivesPath, DrivesSupplied, DrivesToward, IsAsked, Means, ready}
+use Rattle.ckrt_cli_disk.specs.Driving.{DrivesBehindNote, DrivesEquipped, DrivesFound, DrivesInRange, DrivesInto, DrivesLooked, DrivesOpened, DrivesOpenedOutput, DrivesPath, DrivesSupplied, DrivesToward, HistoryHolds, IsAsked, Means, answer_of, driven_of, ready}
 use Rattle.ckrt_recovery.specs.Recovered.{IsRecovered}
 use Rattle.ckrt_cli_disk.specs.Equipping.{Equips, with_left_closed}
 use Rattle.ckrt_cli_disk.specs.Feeding.{Supplies}
@@ -26,8 +26,21 @@ use Rattle.ckrt_cli_files.specs.declared.output.OpenedOutput.{OpenedOutput}
 use Rattle.ckrt_cli_words.specs.Jobs.{Driving, drive, request_of_words}
 use Rattle.ckrt_cli_words.specs.declared.job.WordsFault.{WordsFault}
 use Rattle.ckrt_cli_words.specs.declared.job.WordsFault.TheVariants as words
+use Rattle.ckrt_history.specs.declared.keeping_fault.KeepingFault.{KeepingFault}
+use Rattle.ckrt_history.specs.declared.keeping_fault.KeepingFault.TheVariants.{Device, Drive, Full}
+use Rattle.ckrt_machine.specs.Steps.{State}
+use Rattle.ckrt_schedule.specs.declared.next.ScheduleEnd.{ScheduleEnd}
+use Rattle.ckrt_cli_files.specs.declared.reason.OutputReason.{OutputReason}
 use Rattle.ckrt_cli.specs.Coming.{Came, Fed, Furnished, Sized, in_range, noted, of_fed, of_found, of_furnished, of_looked, of_noted, of_path, of_sized, onto_fitting, onto_opened, set}
 use Rattle.ckrt_cli.specs.Commands.{asked_or, of_request, of_words}
+
+-- where a job didn't fail, the history of its drive didn't
+holds_by : (result : Result Driven JobFault) → ((fault : JobFault) → result ≡ Err fault → ⊥) → (why : OutputReason) (answer : Result Driven KeepingFault) → result ≡ answer_of why answer → (state : State) (told : Result (Option ScheduleEnd) KeepingFault)
+    → answer ≡ driven_of state told → HistoryHolds told
+holds_by result well why answer is state (Ok ending) gives = tt
+holds_by result well why answer is state (Err (Drive fault)) gives = tt
+holds_by result well why answer is state (Err Device) gives = absurd (well _ (is ∙ ap (answer_of why) gives))
+holds_by result well why answer is state (Err Full) gives = absurd (well _ (is ∙ ap (answer_of why) gives))
 
 module _ {D W : Type 0} {d : Ghosts D} (means : Means d W) (j : Driving) where
   abbrev pub Finds : D → Type 0
@@ -39,18 +52,25 @@ module _ {D W : Type 0} {d : Ghosts D} (means : Means d W) (j : Driving) where
     pub asked : Openings D
     pub closes : new ≡ with_left_closed (with_closed_output asked came.run.end) came.run.left came.run.after.disk
     pub kept : is_some came.run.left.input ≡ is_some came.run.beside.intake
+    pub holds : HistoryHolds came.run.drives.told
 
   module _ (path : List ℕ) (named : j.output ≡ Some path) (result : Result Driven JobFault) (new : Openings D) where
-    -- there is a drive, or the job failed
+    -- there is a drive, of which this is known where the job didn't fail; or it failed
     abbrev pub Says : Option (Came d means.sources j path) → Type 0
     Says None = (fault : JobFault) × (result ≡ Err fault)
-    Says (Some came) = Facts path new came
+    Says (Some came) = ((fault : JobFault) → result ≡ Err fault → ⊥) → Facts path new came
 
     by_fitting : (there : Furnished d means.sources j) → Finds there.fed.sized.found → (session : Session D d) → (recovered : IsRecovered d there.it.disk session) → (output : OpenedOutput D) → (is_opened : means.sources.Outputs path output)
         → (drives : DrivesOpenedOutput output there.fed.sized.options (ready session there.it.beside) (with_output there.joined (opened path)) new result)
         → Says (onto_fitting means j path named result there new session recovered output is_opened drives)
     by_fitting there finds session recovered output is_opened (inl refuses) = (_, refuses.is)
-    by_fitting there finds session recovered output is_opened (inr takes) = record { finds = finds; asked = with_output there.joined (opened path); closes = takes.drives.closes; kept = takes.drives.kept }
+    by_fitting there finds session recovered output is_opened (inr takes) = λ well. record {
+      finds = finds;
+      asked = with_output there.joined (opened path);
+      closes = takes.drives.closes;
+      kept = takes.drives.kept;
+      holds = holds_by result well takes.drives.why takes.drives.answer takes.drives.gives takes.drives.after.progress.machine.state takes.drives.drives.told takes.drives.drives.gives;
+    }
 
     by_output : (there : Furnished d means.sources j) → Finds there.fed.sized.found → (session : Session D d) → (recovered : IsRecovered d there.it.disk session)
         → (drives : DrivesInto (means.sources.Outputs path) path there.fed.sized.options (ready session there.it.beside) there.joined new result)
@@ -114,7 +134,7 @@ module _ {D W : Type 0} {d : Ghosts D} (means : Means d W) (j : Driving) where
 
     some : (o : Option (Came d means.sources j path)) → Says o → ((fault : JobFault) → result ≡ Err fault → ⊥) → (came : Came d means.sources j path) × (o ≡ Some came) × Facts path new came
     some None failed well = absurd (well failed.0 failed.1)
-    some (Some came) facts well = (came, refl, facts)
+    some (Some came) facts well = (came, refl, facts well)
 
 not_refused : (f : WordsFault) (status : ℕ) → status ≡ status_of_words f → status ≢ 1 → status ≢ 2 → ⊥
 not_refused (words.Usage text) status is one two = two is

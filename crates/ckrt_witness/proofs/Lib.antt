@@ -21,3 +21,4 @@ mod LineLemmas
 mod StreamLemmas
 mod DriveTurnLemmas
 mod BesideLemmas
+mod CommandsBesideLemmas

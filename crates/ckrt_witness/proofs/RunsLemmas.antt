@@ -31,14 +31,14 @@ use Rattle.ckrt_witness.specs.Runs.{AsksDrive, CameToDrive, Ran, RanTwice, RunsW
 use Rattle.ckrt_witness.proofs.CameLemmas.{Facts, Finds, came_by_words}
 use Rattle.ckrt_witness.proofs.WitnessLemmas.{again, only_image, stop_at_end}
 
-no_more : {D : Type 0} (x : D) (xs ys : List D) → ys ≡ xs → ys ≡ x ∷ xs → ⊥
+pub no_more : {D : Type 0} (x : D) (xs ys : List D) → ys ≡ xs → ys ≡ x ∷ xs → ⊥
 no_more x xs ys same more = omega (arith, ap length (sym same ∙ more))
 
-closed_before : {D : Type 0} (o : Openings D) (input : Option D) → (with_closed_input o input).closed_output ≡ o.closed_output
+pub closed_before : {D : Type 0} (o : Openings D) (input : Option D) → (with_closed_input o input).closed_output ≡ o.closed_output
 closed_before o None = refl
 closed_before o (Some input) = refl
 
-history_before : {D : Type 0} (o : Openings D) (history : Option D) → (with_closed_history o history).closed_output ≡ o.closed_output
+pub history_before : {D : Type 0} (o : Openings D) (history : Option D) → (with_closed_history o history).closed_output ≡ o.closed_output
 history_before o None = refl
 history_before o (Some history) = refl
 
@@ -91,7 +91,7 @@ module _ {D : Type 0} (d : Ghosts D) (gives : Gives D) (name : List ℕ) (none :
       by_taken s there.disk before asked there.taken there.ends
 
 -- how it was read
-was_read : {D : Type 0} (d : Ghosts D) (honest : (x : D) → d.is_honest x) (options : Options) (history : Option (KeptHistory D d)) (kept : Option D) (intake : Option (Intake D)) (input : Option D) → (with_intake d (unfed options history kept) intake input).IsRead
+pub was_read : {D : Type 0} (d : Ghosts D) (honest : (x : D) → d.is_honest x) (options : Options) (history : Option (KeptHistory D d)) (kept : Option D) (intake : Option (Intake D)) (input : Option D) → (with_intake d (unfed options history kept) intake input).IsRead
 was_read d honest options history kept None input = tt
 was_read d honest options history kept (Some it) None = tt
 was_read d honest options history kept (Some it) (Some end) = honest end
@@ -111,7 +111,7 @@ module _ {D W : Type 0} {d : Ghosts D} (means : Means d W) (j : Driving) (start 
   not_made x from old asked (inr (inr (inl making))) = let no = making.lacks.is in absurd (cc)
   not_made x from old asked (inr (inr (inr it))) = absurd (fills it.start it.is_opened)
 
-  found_there : (x : D) → j.image ≡ None → Finds means j x → x ≡ start
+  pub found_there : (x : D) → j.image ≡ None → Finds means j x → x ≡ start
   found_there x none (old, asked, inl there) =
       let compared = subst (λ (image : Option (List ℕ)). Compares d means.images image there.start (with_disk old (opened j.disk)) asked (Ok x)) none there.compares in
       let is : ◌≡◌ {A = Result D JobFault} (Ok x) (Ok there.start) = compared.0 in

@@ -24,3 +24,4 @@ pub mod Alike
 pub mod Lines
 pub mod Streams
 pub mod DriveTurns
+pub mod CommandsBeside

@@ -1,5 +1,5 @@
 -- Disks in memory as the sources of a run.
-use Rattle.std.specs.Prelude.{◌≡◌, ℕ, List, [], ◌∷◌, map, Option, Some, None, option_map}
+use Rattle.std.specs.Prelude.{◌≡◌, ◌≢◌, ◌⊎◌, ℕ, List, [], ◌∷◌, map, Option, Some, None, option_map}
 use Rattle.ckrt_disk.specs.declared.disk.Disk.{Ghosts}
 use Rattle.ckrt_disk.specs.declared.stopping.StoppingDisk.{StoppingDisk}
 use Rattle.ckrt_drive.specs.declared.stream.StreamOutput.{StreamOutput}
@@ -32,16 +32,26 @@ openings_of s = record {
   named = s.named.states;
   closed = with_last s.closed s.closed_before.states;
   closed_output = with_last s.closed_output s.closed_output_before.states;
-  closed_history = s.closed_history.states;
+  closed_history = with_last s.closed_history s.closed_history_before.states;
   closed_input = s.closed_input.states;
   lengthened = s.lengthened.states;
   abandoned = s.abandoned.states;
 }
 
--- output and input are given while they are there, and no disk is made longer
+-- the path of the history, if there is one
+abbrev pub named_by : Shelf → Option (List ℕ)
+named_by s = option_map (λ path. path.now) s.path
+
+-- that one stands for the file of the history, and any other for the output
+abbrev pub StandsFor : Shelf → (path : List ℕ) → StoppingDisk → Type 0
+StandsFor s path disk =
+    ((named_by s ≡ Some path) × (s.history ≡ Some disk))
+    ⊎ ((named_by s ≢ Some path) × (s.output ≡ Some disk))
+
+-- output, history and input are given while they are there, and no disk is made longer
 abbrev pub gives_of : Shelf → Gives StoppingDisk
 gives_of s = record {
-  Outputs = λ _ it. s.output ≡ Some it.output;
+  Outputs = λ path it. StandsFor s path it.output;
   Inputs = λ _ it. s.input ≡ Some it;
   Longer = λ _ _ _. ⊥;
 }

@@ -13,7 +13,7 @@ use ckrt_schedule::ScheduleEnd;
 use std::process::Abort;
 
 /// How many bytes the file of the history has, all zeros at first.
-const ROOM: usize = 1_048_576;
+pub(crate) const ROOM: usize = 1_048_576;
 
 /// A run of a disk with these bytes by so many events, which keeps its history in a file that has so many bytes.
 fn kept<R: Abort + AllocGlobal>(
@@ -34,10 +34,9 @@ fn kept<R: Abort + AllocGlobal>(
     }
 }
 
-/// A file of zeros, which is no history.
-fn blank<R: Abort + AllocGlobal>(rt: &R) -> MemoryDisk
-    ensures settled { (i : ℕ) → ¬ ⟦<MemoryDisk as Disk>⟧.pending result i }
-    ensures none { (r : Recorded) → HasHistory (⟦<MemoryDisk as Disk>⟧.content result) r → ⊥ }
+/// The bytes of a file of zeros, which is no history.
+pub(crate) fn no_history<R: Abort + AllocGlobal>(rt: &R) -> Vec<u8>
+    ensures { (r : Recorded) → HasHistory result.items r → ⊥ }
 {
     let zeros = vec![in rt.alloc(); 0; ROOM].expect(rt, "memory for bytes");
     let mut looked = memory_disk(rt, copied(rt, &zeros));
@@ -46,7 +45,7 @@ fn blank<R: Abort + AllocGlobal>(rt: &R) -> MemoryDisk
         _ => panic!(rt; "zeros are a history"),
     }
     histories_are_one();
-    memory_disk(rt, zeros)
+    zeros
 }
 
 /// Two runs of a guest that keep its history, the second on what a stop behind the first left: they meet all premises of the law.
@@ -56,7 +55,7 @@ fn runs_beside<R: Abort + AllocGlobal>(rt: &R)
 {
     let disk = memory_disk(rt, formatted(rt, ENDLESS));
     let output = memory_disk(rt, copied(rt, b"........"));
-    let file = blank(rt);
+    let file = memory_disk(rt, no_history(rt));
     let first = kept(rt, disk, output, file, 0, 2);
     assert_eq!(rt; first.answer, Ok(Some(ScheduleEnd::Enough)));
     let disk = memory_disk(rt, first.session.into_disk().into_image());

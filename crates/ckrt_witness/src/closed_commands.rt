@@ -32,7 +32,7 @@ const WORDS: &[&str] = &[
 ];
 
 /// Where a drive had enough events, and where the guest ended by `exit 0`.
-const ENOUGH: u8 = 5;
+pub(crate) const ENOUGH: u8 = 5;
 
 const ENDED: u8 = 0;
 
@@ -56,7 +56,7 @@ fn expect_drive<'a, R: Abort + AllocGlobal>(rt: &R, words: &'a [&'a str])
 }
 
 /// A status that no run has whose job failed, or whose words ask for none.
-fn expect_done<R: Abort>(rt: &R, got: u8, want: u8)
+pub(crate) fn expect_done<R: Abort>(rt: &R, got: u8, want: u8)
     ensures done { got ≢ 1 }
     ensures named { got ≢ 2 }
 {
@@ -66,7 +66,7 @@ fn expect_done<R: Abort>(rt: &R, got: u8, want: u8)
 }
 
 /// What was given back.
-fn given_back<R: Abort>(rt: &R, disk: Option<StoppingDisk>) -> StoppingDisk
+pub(crate) fn given_back<R: Abort>(rt: &R, disk: Option<StoppingDisk>) -> StoppingDisk
     ensures { disk ≡ Some result }
 {
     match disk {
@@ -76,7 +76,7 @@ fn given_back<R: Abort>(rt: &R, disk: Option<StoppingDisk>) -> StoppingDisk
 }
 
 /// Bytes that aren't the same.
-fn expect_other<R: Abort>(rt: &R, got: &[u8], other: &[u8])
+pub(crate) fn expect_other<R: Abort>(rt: &R, got: &[u8], other: &[u8])
     ensures { got.now ≢ other.now }
 {
     if got == other {
@@ -122,7 +122,7 @@ fn run<'a, R: Abort + AllocGlobal>(
     );
     expect_done(rt, got, status);
     let closed = sources.into_closed();
-    (given_back(rt, closed.0), given_back(rt, closed.1))
+    (given_back(rt, closed.disk), given_back(rt, closed.output))
 }
 
 /// Two runs by the same words, the first of which stops for want of events: they meet all premises of the promise.

@@ -20,6 +20,8 @@ mod closed_codes;
 #[cfg(test)]
 mod closed_commands;
 #[cfg(test)]
+mod closed_commands_beside;
+#[cfg(test)]
 mod closed_drive_turns;
 #[cfg(test)]
 mod closed_faults;
@@ -51,6 +53,7 @@ mod closed_streams;
 mod closed_words;
 mod codes;
 mod commands;
+mod commands_beside;
 mod drives;
 mod faults;
 mod files;
@@ -78,6 +81,7 @@ pub use before::{fail_recovery, read_before, stop_before};
 pub use beside::{Unmade, keep_once, two_runs_beside};
 pub use codes::{read_events, read_instruction};
 pub use commands::two_runs;
+pub use commands_beside::two_commands_beside;
 pub use drives::{Left, drive_once, two_drives};
 pub use faults::{fail_commit, have_each_fault, is_refused, refuse_checkpoint};
 pub use files::{Three, opened_again, three_sizes};
@@ -92,7 +96,7 @@ pub use printed::{fail_one, hold_one, run_one, serve_twice};
 pub use released::release_twice;
 pub use saved::{is_fresh, read_saved};
 pub use service::{refuse_image, serve_in_memory, serve_once};
-pub use shelf::{Noted, Shelf};
+pub use shelf::{GivenBack, HistoryFile, Noted, Shelf};
 pub use stopping::{fail_by_input, fail_drive};
 pub use streams::{Cut, Narrow, serve_broken};
 pub use turns::{make_events, make_turns};

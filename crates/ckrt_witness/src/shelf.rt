@@ -1,6 +1,7 @@
-//! Disks in memory as the sources of a run: a disk, an output and an input, or an image and a disk to be made, each of which is there once.
-ghost use Rattle.std.specs.Prelude.{◌≡◌, None, Some};
-ghost use Rattle.ckrt_witness.specs.Shelf.{gives_of, image_of, openings_of};
+//! Disks in memory as the sources of a run: a disk, an output, and an input or the file of a history; or an image and a disk to be made. Each of them
+//! is there once.
+ghost use Rattle.std.specs.Prelude.{◌≡◌, ◌≢◌, None, Some, true, false};
+ghost use Rattle.ckrt_witness.specs.Shelf.{gives_of, image_of, named_by, openings_of};
 
 use ckrt_cli_files::{Closes, FileFault, OpenedOutput, OutputReason, Sources, Unlengthened};
 use ckrt_disk::{History, StoppingDisk};
@@ -15,7 +16,29 @@ pub enum Noted<'a> {
     Refused(&'a str, FileFault),
 }
 
-/// The disks, whatever path they are asked for by, what was given back last, and the record of all that was asked.
+/// The file of a history, by its path.
+#[derive(Drop)]
+pub struct HistoryFile<'a> {
+    /// Its path.
+    pub path: &'a str,
+    /// Its bytes, and behind them zeros.
+    pub file: StoppingDisk,
+    /// How many bytes it has.
+    pub length: u64,
+}
+
+/// What a run gave back.
+#[derive(Drop)]
+pub struct GivenBack {
+    /// The disk.
+    pub disk: Option<StoppingDisk>,
+    /// The output.
+    pub output: Option<StoppingDisk>,
+    /// The file of the history.
+    pub history: Option<StoppingDisk>,
+}
+
+/// The disks, whatever path they are asked for by, but the history only by its own; what was given back last; and the record of all that was asked.
 #[derive(Drop)]
 pub struct Shelf<'a> {
     guest: Option<&'a [u8]>,
@@ -23,8 +46,12 @@ pub struct Shelf<'a> {
     disk: Option<StoppingDisk>,
     output: Option<StoppingDisk>,
     input: Option<StoppingDisk>,
+    path: Option<&'a str>,
+    history: Option<StoppingDisk>,
+    length: u64,
     closed: Option<StoppingDisk>,
     closed_output: Option<StoppingDisk>,
+    closed_history: Option<StoppingDisk>,
     image: History<Noted<'a>>,
     disks: History<Noted<'a>>,
     outputs: History<Noted<'a>>,
@@ -35,7 +62,7 @@ pub struct Shelf<'a> {
     closed_before: History<StoppingDisk>,
     closed_output_before: History<StoppingDisk>,
     histories: History<Noted<'a>>,
-    closed_history: History<StoppingDisk>,
+    closed_history_before: History<StoppingDisk>,
     closed_input: History<StoppingDisk>,
     lengthened: History<StoppingDisk>,
     abandoned: History<StoppingDisk>,
@@ -46,6 +73,7 @@ impl<'a> Shelf<'a> {
     fn empty() -> Shelf<'a>
         ensures guest { result.guest ≡ None }
         ensures filled { result.filled ≡ None }
+        ensures path { named_by result ≡ None }
     {
         Shelf {
             guest: None,
@@ -53,8 +81,12 @@ impl<'a> Shelf<'a> {
             disk: None,
             output: None,
             input: None,
+            path: None,
+            history: None,
+            length: 0,
             closed: None,
             closed_output: None,
+            closed_history: None,
             image: History::new(),
             disks: History::new(),
             outputs: History::new(),
@@ -65,11 +97,24 @@ impl<'a> Shelf<'a> {
             closed_before: History::new(),
             closed_output_before: History::new(),
             histories: History::new(),
-            closed_history: History::new(),
+            closed_history_before: History::new(),
             closed_input: History::new(),
             lengthened: History::new(),
             abandoned: History::new(),
         }
+    }
+
+    /// A disk and an output.
+    fn with_output(disk: StoppingDisk, output: StoppingDisk) -> Shelf<'a>
+        ensures disk { result.disk ≡ Some disk }
+        ensures output { result.output ≡ Some output }
+        ensures filled { result.filled ≡ None }
+        ensures path { named_by result ≡ None }
+    {
+        let mut shelf = Shelf::empty();
+        shelf.disk = Some(disk);
+        shelf.output = Some(output);
+        shelf
     }
 
     /// These three.
@@ -78,11 +123,29 @@ impl<'a> Shelf<'a> {
         ensures output { result.output ≡ Some output }
         ensures input { result.input ≡ Some input }
         ensures filled { result.filled ≡ None }
+        ensures path { named_by result ≡ None }
     {
-        let mut shelf = Shelf::empty();
-        shelf.disk = Some(disk);
-        shelf.output = Some(output);
+        let mut shelf = Shelf::with_output(disk, output);
         shelf.input = Some(input);
+        shelf
+    }
+
+    /// A disk, an output, and the file of a history.
+    pub fn with_history(
+        disk: StoppingDisk,
+        output: StoppingDisk,
+        history: HistoryFile<'a>,
+    ) -> Shelf<'a>
+        ensures disk { result.disk ≡ Some disk }
+        ensures output { result.output ≡ Some output }
+        ensures history { result.history ≡ Some history.entry.file }
+        ensures path { named_by result ≡ Some history.entry.path.now }
+        ensures filled { result.filled ≡ None }
+    {
+        let mut shelf = Shelf::with_output(disk, output);
+        shelf.path = Some(history.path);
+        shelf.history = Some(history.file);
+        shelf.length = history.length;
         shelf
     }
 
@@ -97,12 +160,28 @@ impl<'a> Shelf<'a> {
         shelf
     }
 
-    /// The disk and the output that were given back last.
-    pub fn into_closed(self) -> (Option<StoppingDisk>, Option<StoppingDisk>)
-        ensures disk { result.0 ≡ self.entry.closed }
-        ensures output { result.1 ≡ self.entry.closed_output }
+    /// What was given back last.
+    pub fn into_closed(self) -> GivenBack
+        ensures disk { result.disk ≡ self.entry.closed }
+        ensures output { result.output ≡ self.entry.closed_output }
+        ensures history { result.history ≡ self.entry.closed_history }
     {
-        (self.closed, self.closed_output)
+        GivenBack {
+            disk: self.closed,
+            output: self.closed_output,
+            history: self.closed_history,
+        }
+    }
+
+    /// Whether this is the path of the history.
+    fn has_history(&self, path: &str) -> bool
+        ensures is { result ≡ true → named_by self.now ≡ Some path.now }
+        ensures other { result ≡ false → named_by self.now ≢ Some path.now }
+    {
+        match self.path {
+            Some(name) => name == path,
+            None => false,
+        }
     }
 }
 
@@ -132,7 +211,12 @@ impl<'a> Closes<StoppingDisk> for Shelf<'a> {
     }
 
     fn close_history(&mut self, history: StoppingDisk) {
-        self.closed_history = self.closed_history.with(&history);
+        match self.closed_history.replace(history) {
+            Some(before) => {
+                self.closed_history_before = self.closed_history_before.with(&before);
+            }
+            None => {}
+        }
     }
 
     fn close_input(&mut self, input: StoppingDisk) {
@@ -238,6 +322,10 @@ impl<'a> Sources<'a, &'a [u8], StoppingDisk> for Shelf<'a> {
     }
 
     fn open_output(&mut self, path: &'a str) -> Result<OpenedOutput<StoppingDisk>, FileFault> {
+        if self.has_history(path) {
+            self.outputs = self.outputs.with(&Noted::Refused(path, FileFault::InUse));
+            return Err(FileFault::InUse);
+        }
         match self.output.take() {
             Some(output) => {
                 self.outputs = self.outputs.with(&Noted::Opened(path));
@@ -251,8 +339,25 @@ impl<'a> Sources<'a, &'a [u8], StoppingDisk> for Shelf<'a> {
     }
 
     fn open_history(&mut self, path: &'a str) -> Result<OpenedOutput<StoppingDisk>, FileFault> {
-        self.histories = self.histories.with(&Noted::Refused(path, FileFault::InUse));
-        Err(FileFault::InUse)
+        if !self.has_history(path) {
+            self.histories = self
+                .histories
+                .with(&Noted::Refused(path, FileFault::NotFound));
+            return Err(FileFault::NotFound);
+        }
+        match self.history.take() {
+            Some(output) => {
+                self.histories = self.histories.with(&Noted::Opened(path));
+                Ok(OpenedOutput {
+                    output,
+                    length: self.length,
+                })
+            }
+            None => {
+                self.histories = self.histories.with(&Noted::Refused(path, FileFault::InUse));
+                Err(FileFault::InUse)
+            }
+        }
     }
 
     fn open_input(&mut self, path: &'a str) -> Result<StoppingDisk, FileFault> {

@@ -1,7 +1,7 @@
 use Rattle.std.proofs.Common.{◌∙◌, Option, ap, sym}
 use Rattle.ckrt_disk.specs.declared.stopping.StoppingDisk.{StoppingDisk}
 use Rattle.ckrt_witness.specs.Shelf.{with_last}
-use Rattle.ckrt_witness.proofs.ShelfLemmas.{some_same}
+use Rattle.ckrt_witness.proofs.ShelfLemmas.{its_output, some_same}
 use Rattle.ckrt_witness.proofs.closed_commands.run.Goals as goal
 
 pub returns : goal.returns
@@ -13,7 +13,7 @@ returns g c =
       gives = record {
         disks = λ path x there. some_same x c.args.disk s.disk there c.new-sources.ensures.disk;
         fills = λ path size x there. let none = sym c.new-sources.ensures.filled ∙ there in absurd (cc);
-        outputs = λ path it there. some_same it.output c.args.output s.output there c.new-sources.ensures.output;
+        outputs = λ path it there. its_output s path it.output c.args.output c.new-sources.ensures.path c.new-sources.ensures.output there;
         inputs = λ path x there. ap (λ (y : StoppingDisk). y.marked.bytes.items) (some_same x c.stopping_disk-input.result s.input there c.new-sources.ensures.input) ∙ c.stopping_disk-input.ensures.content ∙ c.copied.ensures;
         longer = λ x size y there. there;
       };
