@@ -8,7 +8,8 @@ use Rattle.ckrt_machine.specs.Events.{Machine}
 use Rattle.ckrt_stored.specs.declared.progress.Progress.{Progress}
 use Rattle.ckrt_inspect.specs.declared.fault.InspectFault.{InspectFault}
 use Rattle.ckrt_cli_words.specs.Jobs.{CoreMaking}
-use Rattle.ckrt_cli_disk.specs.CoreFiles.{Cores, CoresAt, CoresFound, CoresProgram, CoresRead, CoresRecorded, MakesCore}
+use Rattle.ckrt_cli_disk.specs.CoreFiles.{Cores, CoresAt, CoresFound, CoresProgram, CoresRead, CoresRecorded, MakesCore, moment_stretch}
+use Rattle.ckrt_cli_disk.specs.Near.{ReadsNear}
 use Rattle.ckrt_cli_files.specs.Openings.{Openings}
 use Rattle.ckrt_cli_reports.specs.declared.fault.JobFault.{JobFault}
 
@@ -33,7 +34,7 @@ module _ {D : Type 0} (d : Ghosts D) (Fills Weaker : ℕ → D → Type 0) (are 
     recorded_weaker : (c : CoreMaking) (r : Recorded) → CoresRecorded d Fills c r old new result → CoresRecorded d Weaker c r old new result
     recorded_weaker c r (found, at, makes) = (found, at, program_weaker c.file found makes)
 
-    read_weaker : (c : CoreMaking) (r : Result Recording HistoryFault) → CoresRead d Fills c old new r result → CoresRead d Weaker c old new r result
+    pub read_weaker : (c : CoreMaking) (r : Result Recording HistoryFault) → CoresRead d Fills c old new r result → CoresRead d Weaker c old new r result
     read_weaker c (Ok r) it = recorded_weaker c _ it
     read_weaker c (Err f) is = is
 
@@ -44,11 +45,11 @@ module _ {D : Type 0} (d : Ghosts D) (Fills Weaker : ℕ → D → Type 0) (are 
       start = o.start;
       is_opened = subst Opens (sym o.is_opened) opens;
       end = o.end;
-      answer = o.answer;
-      read = o.read;
-      records = o.records;
+      near = o.near;
+      openings = o.openings;
+      reads = subst (λ y. ReadsNear d (moment_stretch c.at) o.start o.end y o.openings o.near) same o.reads;
       made = o.made;
-      cores = subst (λ y. CoresRead d Weaker c y o.made o.answer result) same (read_weaker told o.made c o.answer o.cores);
+      cores = read_weaker o.openings o.made c o.near.answer o.cores;
       closes = o.closes;
     }
     cores_of_opened false o = record {

@@ -1,4 +1,4 @@
-use Rattle.std.proofs.Common.{◌≡◌, ℕ, List, false, None, Some, inl, Ok, Err, refl, subst}
+use Rattle.std.proofs.Common.{ℕ, List, None, inl, Ok, Err, refl, subst}
 use Rattle.ckrt_disk.proofs.FrameLemmas.{read_on}
 use Rattle.ckrt_history.specs.Reads.{is_device}
 use Rattle.ckrt_cli_disk.specs.Near.{AnswersFor}
