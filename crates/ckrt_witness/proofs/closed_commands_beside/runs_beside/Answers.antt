@@ -15,7 +15,7 @@ returns g c =
     c.two_commands_beside.ensures p.0 4 (record {
       words = _;
       path = _;
-      asked = c.expect_history.ensures;
+      asked = c.expect_history-path.ensures;
       x = three c.stopping_disk.result c.stopping_disk-2.result c.stopping_disk-3.result;
       end = three one.disk one.output one.file;
       one = c.run-one.ensures;
