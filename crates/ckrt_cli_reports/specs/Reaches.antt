@@ -1,5 +1,5 @@
 -- How far a history is, behind what is told of its drive.
-use Rattle.std.specs.Prelude.{ℕ, List, [], ◌+◌, ◌++◌, codes, decimal, Option, Some, None}
+use Rattle.std.specs.Prelude.{ℕ, List, [], ◌++◌, codes, decimal, Option, Some, None}
 use Rattle.ckrt_calls.specs.declared.table.Tables.{Tables}
 use Rattle.ckrt_inspect.specs.Metrics.{all_metrics}
 use Rattle.ckrt_inspect.specs.declared.metrics.Readings.{Readings}

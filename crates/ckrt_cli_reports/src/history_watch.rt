@@ -65,7 +65,7 @@ impl HistoryWatch {
     /// How far it is, where that can be read.
     pub(crate) fn reach(&mut self) -> Option<Reach> {
         match &mut self.reader {
-            Some(reader) => Some(reader.reach()),
+            Some(reader) => reader.reach(),
             None => None,
         }
     }

@@ -5,7 +5,8 @@
 //! where the writer failed; the status is that of the outcome.
 //!
 //! Only tested: what is said of a fault in plain words, with the path of its file (`texts` of `ckrt_test_drive`); the lines on how
-//! far a drive or a hunt is, when a hunt by time ends, when a table is written, and that what is said is flushed.
+//! far a drive or a hunt is, how far a history is read to be, when a snapshot of it is made, when a hunt by time ends, when a table is written, and
+//! that what is said is flushed.
 //!
 //! What a job comes to: a fault, or what it came to where it was done. Each fault has a name, a file that it is of, and an advice in plain words.
 //!
