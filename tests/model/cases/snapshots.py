@@ -7,7 +7,7 @@ from random import Random
 from cases.beside import stretch_of
 from cases.debugged import SETTINGS, DebuggedCase, difference_of_outcomes, drawn_look, outcome_in, outcome_of_program, packets_of, visiting_case
 from cases.kept import KeptCase, kept_behind, kept_case
-from model.beside import part_of
+from model.beside import KeptHistory, part_of
 from model.events import Run
 from model.layout import OPEN
 from model.snapshots import DIGEST, LEADING, KeptRecording, begun_at, bytes_of_snapshot, lengths_of, note_of, saved_by
@@ -93,7 +93,8 @@ class Snapshots:
 def difference_of_snapshots(ckrt, case, folder, tally, count_life):
     """None, or in a few words where the two differ."""
     difference, beside = kept_behind(ckrt, case, folder, tally, count_life)
-    if difference is not None or beside.kept is None:
+    # of a history that was begun from a copy of the disk that went another way an event may not be accepted at its turn
+    if difference is not None or beside.kept is None or KeptHistory(beside.kept).refused is not None:
         return difference
     snapshots = Snapshots(ckrt, beside, tally)
     snapshots.draw()
