@@ -4,9 +4,7 @@ use crate::expect::expect_eq;
 use crate::histories::{file, joined, recorded};
 use crate::recordings::{Row, played};
 use ckrt_disk::{Disk, MemoryDisk};
-use ckrt_history::{
-    HistoryFault, PartFault, Snapshot, SnapshotSaver, begin_at, read_snapshot,
-};
+use ckrt_history::{HistoryFault, PartFault, Snapshot, SnapshotSaver, begin_at, read_snapshot};
 use ckrt_look_recording::{Recording, make_events};
 use std::process::Abort;
 
@@ -38,11 +36,13 @@ fn saved<R: AllocGlobal, K: Disk, F: Disk>(
     history: &mut K,
     snapshot: &mut F,
 ) -> Result<(), PartFault> {
-    let Ok(Recording {
-        first,
-        mut machine,
-        events,
-    }) = recorded(rt, history)
+    let Ok(
+        Recording {
+            first,
+            mut machine,
+            events,
+        },
+    ) = recorded(rt, history)
     else {
         return Err(PartFault::Unrecorded);
     };
