@@ -15,7 +15,7 @@ mod words;
 use asked::{form_of, names_asked};
 use beside::{Beside, Refusal, Trouble, copy_of};
 use ckrt_cli::run_words;
-use ckrt_cli_files::{OutputReason, ProgramWords, SnapshotPath, SystemSources, ToldWriter};
+use ckrt_cli_files::{OutputReason, ProgramWords, RealDisk, SystemSources, ToldWriter};
 use ckrt_cli_names::{Form, NamedWriter, Names};
 use ckrt_cli_reports::{SystemMeter, WrittenReport};
 use ckrt_cli_words::{Job, Keeping, read_keeping, read_names, read_words};
@@ -55,7 +55,7 @@ struct Task<'a, 'j> {
     words: &'a [&'a str],
     keeping: Keeping,
     program: Option<ProgramWords<'a>>,
-    snapshots: &'a [SnapshotPath],
+    snapshots: &'a str,
     why: &'a Cell<OutputReason>,
     job: Option<&'j Job<'a>>,
     rules: &'j [Rule],
@@ -94,6 +94,19 @@ fn output_of<'a>(job: Option<&Job<'a>>) -> Option<&'a str> {
     }
 }
 
+/// The files of the system, with what lies beside the file that a job is about: its output, or the snapshots of its history.
+fn sources_of<'a>(
+    rt: &'a HostRuntime,
+    task: Task<'a, '_>,
+) -> SystemSources<'a, HostRuntime, RealDisk<'a, Brand>> {
+    let sources = SystemSources::new(rt, task.why, Calls::new());
+    if task.snapshots.is_empty() {
+        sources.with_output(output_of(task.job))
+    } else {
+        sources.with_snapshots(task.snapshots)
+    }
+}
+
 /// What a job came to: its status, what was reported, and, where the history of its drive failed, below which offset its output was put out.
 #[derive(Drop)]
 struct Ran {
@@ -115,9 +128,7 @@ fn run_once<'a>(
     let mut writer = KeptWriter::new(rt, task.why, again, named);
     let mut reporter = WrittenReport::new(room);
     let mut meter = SystemMeter::new(rt).saving_snapshots(task.keeping.snapshots);
-    let sources = SystemSources::new(rt, task.why, Calls::new())
-        .with_output(output_of(task.job))
-        .with_snapshots(task.snapshots);
+    let sources = sources_of(rt, task);
     let status = run_words::<HostRuntime, Brand, _, _, _, _>(
         rt.alloc(),
         task.words,
@@ -315,7 +326,7 @@ fn run_given<'a>(
     words: &'a [&'a str],
     arguments: &'a [&'a str],
     variables: &'a [&'a str],
-    snapshots: &'a [SnapshotPath],
+    snapshots: &'a str,
     why: &'a Cell<OutputReason>,
 ) -> u8 {
     let task = Task {
@@ -350,7 +361,8 @@ fn run_arguments(rt: &HostRuntime) -> io::Result<u8> {
     let variables = guest_variables(rt.alloc(), arguments.as_slice())?;
     let snapshots = snapshots_for(rt, &words);
     let why = Cell::new(OutputReason::Other);
-    Ok(run_given(rt, &words, &given, &variables, &snapshots, &why))
+    let paths = snapshots.as_str();
+    Ok(run_given(rt, &words, &given, &variables, paths, &why))
 }
 
 /// How the program is used; the answer is its status.
@@ -359,7 +371,7 @@ fn show_usage<'a>(rt: &'a HostRuntime, words: &'a [&'a str], why: &'a Cell<Outpu
         words,
         keeping: NOTHING_KEPT,
         program: None,
-        snapshots: &[],
+        snapshots: "",
         why,
         job: None,
         rules: &[],

@@ -1,7 +1,5 @@
 //! The snapshots that lie beside a history: those of FILE are in the folder FILE.snapshots, each with the number of its events as its name.
-use ckrt_cli_files::SnapshotPath;
 use ckrt_cli_words::{Job, StretchJob, read_words};
-use std::alloc::Global;
 use std::fs::read_dir;
 use std::io;
 
@@ -25,23 +23,25 @@ fn history_of<'a>(job: &Job<'a>) -> Option<&'a str> {
     }
 }
 
-/// The snapshots beside the history of a path. What has no number as its name is none.
-fn beside(rt: &HostRuntime, history: &str) -> io::Result<Vec<SnapshotPath>> {
+/// The paths of the snapshots beside the history of a path, a line each. What has no number as its name is none.
+fn beside(rt: &HostRuntime, history: &str) -> io::Result<String> {
     let folder = format!(in rt.alloc(); "{history}.snapshots")?;
-    let mut found = Vec::new(rt.alloc());
+    let mut paths = String::new(rt.alloc());
     for entry in read_dir(rt, folder.as_str())? {
         let entry = entry?;
-        if let Ok(count) = entry.file_name().parse::<u64>() {
-            let path = format!(in rt.alloc(); "{}/{}", folder, entry.file_name())?;
-            found.push(SnapshotPath { count, path })?;
+        if entry.file_name().parse::<u64>().is_ok() {
+            paths.push_str(folder.as_str())?;
+            paths.push_str("/")?;
+            paths.push_str(entry.file_name())?;
+            paths.push_str("\n")?;
         }
     }
-    Ok(found)
+    Ok(paths)
 }
 
-/// The snapshots beside the history that these words look at, where they do and some can be listed.
-pub fn snapshots_for(rt: &HostRuntime, words: &[&str]) -> Vec<SnapshotPath> {
-    let none = Vec::new(rt.alloc());
+/// The paths of the snapshots beside the history that these words look at, a line each; none where they look at none, or none can be listed.
+pub fn snapshots_for(rt: &HostRuntime, words: &[&str]) -> String {
+    let none = String::new(rt.alloc());
     let Ok(job) = read_words(rt.alloc(), words) else {
         return none;
     };

@@ -34,7 +34,6 @@ pub use image_reader::ImageReader;
 pub use image_words::{LARGEST_IMAGE, ProgramWords, put_words};
 pub use output::OpenedOutput;
 pub use reason::OutputReason;
-pub use snapshot_path::SnapshotPath;
 pub use sources::{Closes, Sources, Unlengthened};
 pub use system::SystemSources;
 pub use told::{RealDisk, ToldFile, ToldWriter};

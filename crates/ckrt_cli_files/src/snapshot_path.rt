@@ -1,30 +1,29 @@
-//! Where snapshots of a history are.
-ghost use Rattle.std.specs.Prelude.{◌≤◌, IfSome};
+//! Which snapshot of a history is the nearest one, by their paths.
 
-/// The path of a snapshot, and behind how many events it is by its name.
-#[derive(Debug, Drop)]
-pub struct SnapshotPath {
-    /// Behind how many events it is.
-    pub count: u64,
-    /// Its path.
-    pub path: String,
+/// Behind how many events a snapshot is, by the name that its path ends with.
+fn count_of(path: &str) -> Option<u64> {
+    let (_, name) = path.rsplit_once('/')?;
+    name.parse::<u64>().ok()
 }
 
-/// The later one of two, where there are two.
-fn later<'a>(found: Option<&'a SnapshotPath>, other: &'a SnapshotPath) -> &'a SnapshotPath {
+/// Whether a snapshot behind so many events is nearer to a position than the one that was found: not behind the position, and later.
+fn is_nearer(count: u64, position: u64, found: Option<(u64, &str)>) -> bool {
     match found {
-        Some(found) if other.count <= found.count => found,
-        _ => other,
+        Some((other, _)) => count <= position && other < count,
+        None => count <= position,
     }
 }
 
-/// The path of the last one behind no more events than a position.
-pub(crate) fn nearest_of<'a>(snapshots: &'a [SnapshotPath], position: u64) -> Option<&'a str> {
+/// The path of the last snapshot that is behind no more events than a position, of these paths, a line each.
+pub(crate) fn nearest_of<'a>(paths: &'a str, position: u64) -> Option<&'a str> {
     let mut nearest = None;
-    for snapshot in snapshots.iter() {
-        if snapshot.count <= position {
-            nearest = Some(later(nearest, snapshot));
+    for path in paths.lines() {
+        if let Some(count) = count_of(path) {
+            if is_nearer(count, position, nearest) {
+                nearest = Some((count, path));
+            }
         }
     }
-    Some(nearest?.path.as_str())
+    let (_, path) = nearest?;
+    Some(path)
 }

@@ -16,7 +16,7 @@ use crate::image_reader::{ImageReader, with_words};
 use crate::image_words::ProgramWords;
 use crate::output::OpenedOutput;
 use crate::reason::OutputReason;
-use crate::snapshot_path::{SnapshotPath, nearest_of};
+use crate::snapshot_path::nearest_of;
 use crate::sources::{Closes, Sources, Unlengthened};
 use crate::told::RealDisk;
 use ckrt_disk::{Calls, Disk, FileUse, History, Holds};
@@ -78,10 +78,9 @@ pub struct SystemSources<'a, R, D> {
     input_id: Option<FileId>,
     /// And which one the history is.
     history_id: Option<FileId>,
-    /// The path that the output will have, if one will.
-    output_path: Option<&'a str>,
-    /// The snapshots of the history that is looked at.
-    snapshots: &'a [SnapshotPath],
+    /// What lies beside the file that the job is about: of a drive the path that its output will have, and of a look the paths of snapshots, a line
+    /// each. No job has both, and with a field more the prover compares types for too long.
+    beside: Option<&'a str>,
     /// The file that was made for a disk that isn't formatted yet, or for a core that isn't written.
     made: Option<MadeFile<'a>>,
 }
@@ -121,8 +120,7 @@ impl<'a, R, D> SystemSources<'a, R, D> {
             disk_file: None,
             input_id: None,
             history_id: None,
-            output_path: None,
-            snapshots: &[],
+            beside: None,
             made: None,
         }
     }
@@ -148,16 +146,16 @@ impl<'a, R, D> SystemSources<'a, R, D> {
         ensures openings { openings_of result ≡ openings_of self.entry }
         ensures opened { opened_by result ≡ opened_by self.entry }
     {
-        self.output_path = path;
+        self.beside = path;
         self
     }
 
-    /// The same files, where these are the snapshots of the history that is looked at.
-    pub fn with_snapshots(mut self, snapshots: &'a [SnapshotPath]) -> SystemSources<'a, R, D>
+    /// The same files, where these are the paths of the snapshots of the history that is looked at, a line each.
+    pub fn with_snapshots(mut self, paths: &'a str) -> SystemSources<'a, R, D>
         ensures openings { openings_of result ≡ openings_of self.entry }
         ensures opened { opened_by result ≡ opened_by self.entry }
     {
-        self.snapshots = snapshots;
+        self.beside = Some(paths);
         self
     }
 }
@@ -404,7 +402,7 @@ impl<'a, R: Files<File = File>, H: Holds> SystemSources<'a, R, RealDisk<'a, H>> 
     {
         self.taken_for(path)?;
         let opened = self.note(FileUse::Output, path);
-        let history = open_system_history(self.rt, path, self.output_path, opened, self.why)?;
+        let history = open_system_history(self.rt, path, self.beside, opened, self.why)?;
         self.history_id = FileId::at(self.rt, path);
         Ok(history)
     }
@@ -468,7 +466,7 @@ impl<'a, R: Files<File = File>, H: Holds> Sources<'a, ImageReader, RealDisk<'a, 
     }
 
     fn nearest_snapshot(&self, position: u64) -> Option<&'a str> {
-        nearest_of(self.snapshots, position)
+        nearest_of(self.beside?, position)
     }
 
     fn open_filled(&mut self, path: &'a str, size: usize) -> Result<RealDisk<'a, H>, FileFault> {
