@@ -14,6 +14,7 @@ import time
 from building.sources import TOP, Sources, alone, crates_listed, is_made_of, is_program, module_of_the_kit, note_made, put, say
 
 LEFT_OUT = shutil.ignore_patterns("out", "must-fail")
+SHARE_OF_NEED = 0.6  # of the memory that `rt ci` expects of a check, by the lines below its crate: the most that one takes here is 0.5 of it
 
 
 def proved(name):
@@ -77,10 +78,19 @@ def remember_answers(rt):
             setattr(library, name, functools.cache(getattr(library, name)))
 
 
+def expect_less_memory(rt):
+    """Has `rt ci` expect of a check what those of these crates take. Else the largest ones, of 4 to 6 GB, wait for each other on a machine of
+    24 GB, with a processor idle."""
+    need = getattr(rt, "need", None)
+    if need:
+        rt.need = lambda crate: int(SHARE_OF_NEED * need(crate))
+
+
 def run_proofs(is_chain_first):
     """Is `rt ci` over the folder that it is run in, for a build with the order of this program. Returns the status."""
     rt = module_of_the_kit("rt")
     remember_answers(rt)
+    expect_less_memory(rt)
     if is_chain_first and [*inspect.signature(rt.in_lanes).parameters] == ["tasks"]:
         rt.in_lanes = functools.partial(deal_out, rt)
     return rt.main(["ci"])
