@@ -14,7 +14,7 @@ import time
 from building.sources import TOP, Sources, alone, crates_listed, is_made_of, is_program, module_of_the_kit, note_made, put, say
 
 LEFT_OUT = shutil.ignore_patterns("out", "must-fail")
-SHARE_OF_NEED = 0.6  # of the memory that `rt ci` expects of a check, by the lines below its crate: the most that one takes here is 0.5 of it
+SHARE_OF_NEED = 0.6  # of the memory that `rt ci` expects of a check, by the lines below its crate: the most that one takes here is 0.54 of it
 
 
 def proved(name):
