@@ -31,6 +31,18 @@ def count_down(program, register, name):
     program.bne(register, 0, name)
 
 
+def join_threads(program, threads):
+    """Creates threads, each of the label where it begins and an argument, with a stack of a page each, and joins them all."""
+    for number, (label, argument) in enumerate(threads):
+        program.address(10, label)
+        program.number(11, argument)
+        program.number(12, 0x8000 + 0x1000 * number)
+        program.call(CREATE)
+    for number in range(len(threads)):
+        program.number(10, 2 + number)
+        program.call(JOIN)
+
+
 def putting(seed, count, between):
     """Puts so many bytes (2^32, if none), each the least of the generator's next number, with so many rounds of two steps before each."""
     program = Program()
@@ -140,14 +152,7 @@ def echoing():
 def letters(end=Program.exit):
     """A guest whose threads put a letter each, in any order, and then it comes to an end."""
     program = Program()
-    for number in range(LETTERS):
-        program.address(10, "letter")
-        program.number(11, ord("a") + number)
-        program.number(12, 0x8000 + 0x1000 * number)
-        program.call(CREATE)
-    for number in range(LETTERS):
-        program.number(10, 2 + number)
-        program.call(JOIN)
+    join_threads(program, [("letter", ord("a") + number) for number in range(LETTERS)])
     end(program)
     program.label("letter")
     program.call(PUTC)
@@ -158,14 +163,7 @@ def letters(end=Program.exit):
 def contending(rounds):
     """Threads that add to a word under a mutex and to another one without it, and put a letter, so many times (2^32, if none); then it ends."""
     program = Program()
-    for number in range(CONTENDERS):
-        program.address(10, "contend")
-        program.number(11, ord("a") + number)
-        program.number(12, 0x8000 + 0x1000 * number)
-        program.call(CREATE)
-    for number in range(CONTENDERS):
-        program.number(10, 2 + number)
-        program.call(JOIN)
+    join_threads(program, [("contend", ord("a") + number) for number in range(CONTENDERS)])
     program.exit()
     program.label("contend")  # with the mutex at 3000, and the words at 3010 and 3020
     program.addi(13, 10, 0)
@@ -188,14 +186,7 @@ def contending(rounds):
 def crowded():
     """Threads that put a letter each, in any order, and two of them take two mutexes before, in opposite orders."""
     program = Program()
-    for number in range(CROWD):
-        program.address(10, "crosses" if number < 2 else "letter")
-        program.number(11, number)
-        program.number(12, 0x8000 + 0x1000 * number)
-        program.call(CREATE)
-    for number in range(CROWD):
-        program.number(10, 2 + number)
-        program.call(JOIN)
+    join_threads(program, [("crosses" if number < 2 else "letter", number) for number in range(CROWD)])
     program.exit()
     program.label("crosses")  # the mutexes at 2000 and 2004, or these turned round
     program.addi(13, 10, 0)
