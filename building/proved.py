@@ -11,6 +11,7 @@ import sys
 import tempfile
 import time
 
+from building.edits import try_edits_at_once
 from building.sources import TOP, Sources, alone, crates_listed, is_made_of, is_program, module_of_the_kit, note_made, put, say
 
 LEFT_OUT = shutil.ignore_patterns("out", "must-fail")
@@ -91,6 +92,7 @@ def run_proofs(is_chain_first):
     rt = module_of_the_kit("rt")
     remember_answers(rt)
     expect_less_memory(rt)
+    try_edits_at_once(rt)
     if is_chain_first and [*inspect.signature(rt.in_lanes).parameters] == ["tasks"]:
         rt.in_lanes = functools.partial(deal_out, rt)
     return rt.main(["ci"])
@@ -102,6 +104,14 @@ def run_rt(name, words):
     remember_answers(rt)
     os.chdir(f"{TOP}/crates/{name}")
     return rt.main(words)
+
+
+def run_edits(names):
+    """Is `rt must-fail` over the folder that it is run in, without the minutes for its stamps. No file may change meanwhile. Returns the status."""
+    rt = module_of_the_kit("rt")
+    remember_answers(rt)
+    try_edits_at_once(rt)
+    return rt.main(["must-fail", *names])
 
 
 def prove(room, count):
