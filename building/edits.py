@@ -13,8 +13,10 @@ from dataclasses import dataclass
 
 from building.sources import say
 
-# What is called of `rt`, with the parameters that it has to have.
-CALLED = {"must_fail_all": "crate edits flags", "checked": "crate texts flags kept", "read_edit": "edit folder", "unread": "line changed"}
+# What is called of `rt`, with the parameters that it has to have; and what is put in place of its own, which toolchains have in one of two forms.
+CALLED = {"checked": "crate texts flags kept", "read_edit": "edit folder", "unread": "line changed"}
+ALL_AT_A_TIME = {"must_fail_all": "crate edits flags"}
+ONE_AT_A_TIME = {"seeded": "crate flags start", "must_fail": "crate edit flags kept", "edits_of": "crate"}
 FUNCTION = re.compile(r"(?P<indent>(?: {4})?)(?:pub(?:\(\w+\))? )?fn (?P<name>\w+)")
 METHODS = re.compile(r"impl(?:<.*>)? (?:(?P<trait>(?!Drop\b)\w+) for )?(?P<type>\w+)(?:<'?\w(?:, '?\w)*>)?(?: \{)?")
 # What a check says of goals: that one isn't proved, that the answer that is written down for one is wrong, and the same of any proof.
@@ -204,25 +206,63 @@ def check_together(rt, crate, changes, flags):
     return refusals(lines_on_goals(rt, ran, texts), changed)
 
 
+def refused_together(rt, crate, edits, flags):
+    """The edits that are refused by checks of many, each with what to say of it."""
+    changes, notes = {edit: changes_of(rt, crate, edit) for edit in edits}, {}
+    rounds = rounds_of(changes)
+    for together in rounds:
+        notes |= check_together(rt, crate, {edit: changes[edit] for edit in together}, flags)
+    say(f"{crate.name}: edits refused in {len(rounds)} checks of many: {len(notes)}; tried alone: {len(edits) - len(notes)}")
+    return {edit: f"must-fail {crate.name}/{os.path.basename(edit)}: refused, as it must be: {note[:160]}" for edit, note in notes.items()}
+
+
 def try_edits(rt, try_each, crate, edits, flags):
     """Is `must_fail_all` of `rt`, whose own is `try_each`: whether each edit is refused, and what to say.
 
     That the crate is proved without an edit isn't looked at here: under the gate the same run has proved it just before.
     """
-    changes, notes = {edit: changes_of(rt, crate, edit) for edit in edits}, {}
-    rounds = rounds_of(changes)
-    for together in rounds:
-        notes |= check_together(rt, crate, {edit: changes[edit] for edit in together}, flags)
-    left = [edit for edit in edits if edit not in notes]
-    say(f"{crate.name}: edits refused in {len(rounds)} checks of many: {len(notes)}; tried alone: {len(left)}")
+    refused = refused_together(rt, crate, edits, flags)
+    left = [edit for edit in edits if edit not in refused]
     tried = dict(zip(left, try_each(crate, left, flags)))
-    for edit, note in notes.items():
-        tried[edit] = True, f"must-fail {crate.name}/{os.path.basename(edit)}: refused, as it must be: {note[:160]}"
-    return [tried[edit] for edit in edits]
+    return [(True, refused[edit]) if edit in refused else tried[edit] for edit in edits]
+
+
+class TriedTogether:
+    """What takes the places of `seeded` and `must_fail` of an `rt` that tries one edit at a time, over a check of the crate as it stands.
+
+    That check is left out where it would serve one edit alone.
+    """
+
+    def __init__(self, rt):
+        self.rt, self.seeded_by_rt, self.must_fail_by_rt, self.refused = rt, rt.seeded, rt.must_fail, {}
+
+    def look(self, crate):
+        """Tries all edits of a crate together. Returns how many are left."""
+        edits = self.rt.edits_of(crate)[0]
+        self.refused |= refused_together(self.rt, crate, edits, ["--jobs", "1"])
+        return len([edit for edit in edits if edit not in self.refused])
+
+    def seeded(self, crate, flags, start=None):
+        """The folder with a check of the crate as it stands, or "" where there is no need of one."""
+        return self.seeded_by_rt(crate, flags, start) if self.look(crate) > 1 else ""
+
+    def must_fail(self, crate, edit, flags, kept=None):
+        """What a try of an edit comes to, and what to say. Of a crate with one edit alone, `seeded` isn't called before."""
+        if len(self.rt.edits_of(crate)[0]) == 1:
+            self.look(crate)
+        return (self.rt.REFUSED, self.refused[edit]) if edit in self.refused else self.must_fail_by_rt(crate, edit, flags, kept)
+
+
+def has(rt, called):
+    """Whether a toolchain has all that is called of it."""
+    its = {name: getattr(rt, name, None) for name in called}
+    return all(it and [*inspect.signature(it).parameters] == called[name].split() for name, it in its.items())
 
 
 def try_edits_at_once(rt):
     """Has `rt` try many edits in one check, where this toolchain has all that is called of it."""
-    called = {name: getattr(rt, name, None) for name in CALLED}
-    if all(it and [*inspect.signature(it).parameters] == CALLED[name].split() for name, it in called.items()):
+    if has(rt, CALLED | ALL_AT_A_TIME):
         rt.must_fail_all = functools.partial(try_edits, rt, rt.must_fail_all)
+    elif has(rt, CALLED | ONE_AT_A_TIME) and hasattr(rt, "REFUSED"):
+        together = TriedTogether(rt)
+        rt.seeded, rt.must_fail = together.seeded, together.must_fail
