@@ -107,13 +107,22 @@ def look_for_empty_contracts_in_turn(rt):
     library.Crate.prove, library.help_of = prove_in_turn, help_in_turn
 
 
-def run_proofs(is_chain_first):
-    """Is `rt ci` over the folder that it is run in, for a build with the order of this program. Returns the status."""
+def leave_out_tests(rt, names):
+    """Has `rt ci` leave out the tests of these crates."""
+    has_tests = rt.rtlib.Crate.has_tests
+    rt.rtlib.Crate.has_tests = lambda crate: crate.name not in names and has_tests(crate)
+
+
+def run_proofs(is_chain_first, without_tests=()):
+    """Is `rt ci` over the folder that it is run in, for a build with the order of this program, but for the tests of some crates. Returns the
+    status."""
     rt = module_of_the_kit("rt")
     remember_answers(rt)
     expect_less_memory(rt)
     try_edits_at_once(rt)
     look_for_empty_contracts_in_turn(rt)
+    if without_tests:
+        leave_out_tests(rt, without_tests)
     if is_chain_first and [*inspect.signature(rt.in_lanes).parameters] == ["tasks"]:
         rt.in_lanes = functools.partial(deal_out, rt)
     return rt.main(["ci"])
