@@ -5,10 +5,12 @@ on their bodies. So an edit within a body can only break goals of this function,
 
 By such a check an edit is refused only where a goal of a function that it changes isn't proved. All other edits are tried by `rt` as ever.
 """
+import contextlib
 import functools
 import inspect
 import os
 import re
+import shutil
 from dataclasses import dataclass
 
 from building.sources import say
@@ -16,7 +18,7 @@ from building.sources import say
 # What is called of `rt`, with the parameters that it has to have; and what is put in place of its own, which toolchains have in one of two forms.
 CALLED = {"checked": "crate texts flags kept", "read_edit": "edit folder", "unread": "line changed"}
 ALL_AT_A_TIME = {"must_fail_all": "crate edits flags"}
-ONE_AT_A_TIME = {"seeded": "crate flags start", "must_fail": "crate edit flags kept", "edits_of": "crate"}
+ONE_AT_A_TIME = {"seeded": "crate flags start", "must_fail": "crate edit flags kept", "edits_of": "crate", "linked": "folder to"}
 FUNCTION = re.compile(r"(?P<indent>(?: {4})?)(?:pub(?:\(\w+\))? )?fn (?P<name>\w+)")
 METHODS = re.compile(r"impl(?:<.*>)? (?:(?P<trait>(?!Drop\b)\w+) for )?(?P<type>\w+)(?:<'?\w(?:, '?\w)*>)?(?: \{)?")
 # What a check says of goals: that one isn't proved, that the answer that is written down for one is wrong, and the same of any proof.
@@ -189,8 +191,11 @@ def refusals(lines, changed):
     return notes
 
 
-def check_together(rt, crate, changes, flags):
-    """Checks a crate with all edits of a round. Returns the lines by which edits are refused."""
+def check_together(rt, crate, changes, flags, kept=None):
+    """Checks a crate with all edits of a round, over what a folder keeps, where one is given. Returns the lines by which edits are refused.
+
+    Where none is, only those functions are checked that the edits change, and all that they call, as far as that can be said.
+    """
     bodies, texts, found = {}, {}, {}
     for (file, place), body in (it for changed in changes.values() for it in changed.items()):
         bodies.setdefault(file, {})[place] = body
@@ -199,19 +204,20 @@ def check_together(rt, crate, changes, flags):
         found[file] = functions_of(texts[file], file)
     changed = {edit: [found[file][place] for file, place in its] for edit, its in changes.items()}
     paths = sorted({it.path or module_of(it.file) for its in changed.values() for it in its})
-    only = [word for path in paths for word in ("--only", path)] if all(paths) else []
-    ran = rt.checked(crate, texts, [*flags, *only], None)
+    only = [word for path in paths for word in ("--only", path)] if all(paths) and not kept else []
+    ran = rt.checked(crate, texts, [*flags, *only], kept)
     if only and ran.returncode == 2:  # (a path fits no function, or several)
         ran = rt.checked(crate, texts, flags, None)
     return refusals(lines_on_goals(rt, ran, texts), changed)
 
 
-def refused_together(rt, crate, edits, flags):
-    """The edits that are refused by checks of many, each with what to say of it."""
+def refused_together(rt, crate, edits, flags, over=None):
+    """The edits that are refused by checks of many, each with what to say of it. Each check is over a folder that `over` gives, if it is given."""
     changes, notes = {edit: changes_of(rt, crate, edit) for edit in edits}, {}
     rounds = rounds_of(changes)
     for together in rounds:
-        notes |= check_together(rt, crate, {edit: changes[edit] for edit in together}, flags)
+        with over() if over else contextlib.nullcontext() as kept:
+            notes |= check_together(rt, crate, {edit: changes[edit] for edit in together}, flags, kept)
     say(f"{crate.name}: edits refused in {len(rounds)} checks of many: {len(notes)}; tried alone: {len(edits) - len(notes)}")
     return {edit: f"must-fail {crate.name}/{os.path.basename(edit)}: refused, as it must be: {note[:160]}" for edit, note in notes.items()}
 
@@ -230,21 +236,36 @@ def try_edits(rt, try_each, crate, edits, flags):
 class TriedTogether:
     """What takes the places of `seeded` and `must_fail` of an `rt` that tries one edit at a time, over a check of the crate as it stands.
 
-    That check is left out where it would serve one edit alone.
+    Where all edits but one at most change bodies alone, many are tried without that check, which is made only if two or more are left.
+    Else all stand on it.
     """
 
     def __init__(self, rt):
         self.rt, self.seeded_by_rt, self.must_fail_by_rt, self.refused = rt, rt.seeded, rt.must_fail, {}
 
-    def look(self, crate):
+    def look(self, crate, over=None):
         """Tries all edits of a crate together. Returns how many are left."""
         edits = self.rt.edits_of(crate)[0]
-        self.refused |= refused_together(self.rt, crate, edits, ["--jobs", "1"])
+        self.refused |= refused_together(self.rt, crate, edits, ["--jobs", "1"], over)
         return len([edit for edit in edits if edit not in self.refused])
+
+    @contextlib.contextmanager
+    def copy_of(self, room):
+        """A copy of what a check of a crate as it stands has kept."""
+        try:
+            self.rt.linked(f"{room}/seed", f"{room}/many")
+            yield f"{room}/many"
+        finally:
+            shutil.rmtree(f"{room}/many", ignore_errors=True)
 
     def seeded(self, crate, flags, start=None):
         """The folder with a check of the crate as it stands, or "" where there is no need of one."""
-        return self.seeded_by_rt(crate, flags, start) if self.look(crate) > 1 else ""
+        changes = [changes_of(self.rt, crate, edit) for edit in self.rt.edits_of(crate)[0]]
+        if changes.count({}) < 2:
+            return self.seeded_by_rt(crate, flags, start) if self.look(crate) > 1 else ""
+        room = self.seeded_by_rt(crate, flags, start)
+        self.look(crate, functools.partial(self.copy_of, room) if room else None)
+        return room
 
     def must_fail(self, crate, edit, flags, kept=None):
         """What a try of an edit comes to, and what to say. Of a crate with one edit alone, `seeded` isn't called before."""
