@@ -89,8 +89,8 @@ def expect_less_memory(rt):
 
 
 def look_for_empty_contracts_in_turn(rt):
-    """Has `rt ci` look for contracts that no call can meet in the crates whose must-fail edits it tries, and in no other. That is advice, which
-    takes one minute in twenty-five."""
+    """Has `rt ci` look for contracts that no call can meet in the crates whose must-fail edits it tries, and in no others. What it finds is
+    advice, which fails nothing and takes one minute in twenty-five."""
     library, here = getattr(rt, "rtlib", None), threading.local()
     prove, help_of = getattr(getattr(library, "Crate", None), "prove", None), getattr(library, "help_of", None)
     if not prove or not help_of:
